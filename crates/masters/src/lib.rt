@@ -1,0 +1,9 @@
+// Where masters live: the search for a key from its home, and what ADD-M and DEL-M store.
+use terms::RecordNo;
+
+// What the search for a key finds.
+pub enum Found {
+    At(RecordNo),
+    Missing,
+    Damaged,
+}

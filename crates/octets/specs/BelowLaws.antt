@@ -1,0 +1,182 @@
+-- The laws of `Below`: the turns of loops that count up, and what the answers say.
+use mathlib.Core.Path.{_≡_, refl, sym, ap, _∙_}
+use mathlib.Core.Bool.{Bool, true, false, cond, _&&_, and-eq-true-iff}
+use mathlib.Core.List.{List, [], _∷_}
+use mathlib.Core.Logic.{_⊎_, inl, inr}
+use Prim.Native.Nat.{ℕ, zero, suc, _+_, _≤_, _<_}
+use native.Mathlib.Omega.{arith}
+use native.Mathlib.Nat.{eq-or-lt-of-le}
+use native.Mathlib.Numerals.{add-one}
+use lib.ListN.{length, getD, take, set, length-append, List·getD-append}
+use lib.Seq.{take-suc-set, take-all, getD-at}
+use Rattle.octets.specs.Below.{allBelow, sumBelow, countBelow, lowestFrom, upto}
+use Rattle.octets.specs.RunLaws.{refuted}
+
+-- no test is both
+pub never-both : (t : Bool) → t ≡ true → t ≡ false → ⊥
+never-both t p q = let z : _≡_ {A = ℕ} 0 1 = cc in omega arith
+
+-- the two ways to be at most n
+last? {ℓ} : {P : Type ℓ} {i n : ℕ} → i ≤ n → (i ≡ n → P) → (i < n → P) → P
+last? {P = P} {i = i} {n = n} h p q = go (eq-or-lt-of-le h) where
+  go : (i ≡ n) ⊎ (i < n) → P
+  go (inl e) = p e
+  go (inr k) = q k
+
+-- ---- allBelow
+
+module _ (f : ℕ → Bool) where
+  pub allBelow-suc : (i : ℕ) → allBelow f (i + 1) ≡ (allBelow f i && f i)
+  unfolding allBelow
+  allBelow-suc i = rw add-one refl
+
+  pub allBelow-turn : (i : ℕ) → allBelow f i ≡ true → f i ≡ true → allBelow f (i + 1) ≡ true
+  allBelow-turn i h e = rw (allBelow-suc i, h) e
+
+  -- what a true one says of one number, and what makes it true
+  pub allBelow-at : (n i : ℕ) → allBelow f n ≡ true → i < n → f i ≡ true
+  unfolding allBelow
+  allBelow-at zero i h l = absurd (omega arith)
+  allBelow-at (suc n) i h l =
+      let t = and-eq-true-iff (allBelow f n) (f n) .0 h in
+      last? {i = i} {n = n} (omega arith) (λ e. rw e (t .1)) (λ k. allBelow-at n i (t .0) k)
+
+  pub allBelow-all : (n : ℕ) → ((i : ℕ) → i < n → f i ≡ true) → allBelow f n ≡ true
+  unfolding allBelow
+  allBelow-all zero h = refl
+  allBelow-all (suc n) h = rw (allBelow-all n (λ i l. h i (omega arith))) (h n (omega arith))
+
+  pub allBelow-fails : (n i : ℕ) → i < n → f i ≡ false → allBelow f n ≡ false
+  allBelow-fails n i l e = refuted (allBelow f n) (λ h. never-both (f i) (allBelow-at n i h l) e)
+
+pub allBelow-same : (f g : ℕ → Bool) (n : ℕ) → ((i : ℕ) → i < n → f i ≡ g i) → allBelow f n ≡ allBelow g n
+unfolding allBelow
+allBelow-same f g zero h = refl
+allBelow-same f g (suc n) h = rw (allBelow-same f g n (λ i l. h i (omega arith)), h n (omega arith)) refl
+
+-- ---- lowestFrom
+
+-- what holds of both answers of a test
+cond-both : (P : ℕ → Type 0) (t : Bool) (x y : ℕ) → (t ≡ true → P x) → (t ≡ false → P y) → P (cond t x y)
+cond-both P true x y p q = p refl
+cond-both P false x y p q = q refl
+
+module _ (f : ℕ → Bool) where
+  -- a loop has n left to try, from k on
+  pub lowestFrom-turn : (n m k : ℕ) → n ≡ m + 1 → f k ≡ false → lowestFrom f n k ≡ lowestFrom f m (k + 1)
+  unfolding lowestFrom
+  lowestFrom-turn n m k e h = rw (e, add-one m, h) refl
+
+  pub lowestFrom-hit : (n m k : ℕ) → n ≡ m + 1 → f k ≡ true → lowestFrom f n k ≡ k
+  unfolding lowestFrom
+  lowestFrom-hit n m k e h = rw (e, add-one m, h) refl
+
+  pub lowestFrom-end : (n k : ℕ) → n ≡ 0 → lowestFrom f n k ≡ k
+  unfolding lowestFrom
+  lowestFrom-end n k e = rw e refl
+
+  -- the answer is one of the numbers, or the end
+  pub lowestFrom-ge : (n k : ℕ) → k ≤ lowestFrom f n k
+  unfolding lowestFrom
+  lowestFrom-ge zero k = omega arith
+  lowestFrom-ge (suc n) k = cond-both (λ r. k ≤ r) (f k) k (lowestFrom f n (k + 1)) (λ _. omega arith) (λ _. omega (arith, lowestFrom-ge n (k + 1)))
+
+  pub lowestFrom-le : (n k : ℕ) → lowestFrom f n k ≤ k + n
+  unfolding lowestFrom
+  lowestFrom-le zero k = omega arith
+  lowestFrom-le (suc n) k = cond-both (λ r. r ≤ k + suc n) (f k) k (lowestFrom f n (k + 1)) (λ _. omega arith) (λ _. omega (arith, lowestFrom-le n (k + 1)))
+
+  -- f holds of an answer that is not the end
+  pub lowestFrom-at : (n k : ℕ) → lowestFrom f n k < k + n → f (lowestFrom f n k) ≡ true
+  unfolding lowestFrom
+  lowestFrom-at zero k l = absurd (omega arith)
+  lowestFrom-at (suc n) k l =
+      cond-both (λ r. r < k + suc n → f r ≡ true) (f k) k (lowestFrom f n (k + 1)) (λ e m. e) (λ e m. lowestFrom-at n (k + 1) (omega arith)) l
+
+  -- and of no lower one
+  pub lowestFrom-below : (n k i : ℕ) → k ≤ i → i < lowestFrom f n k → f i ≡ false
+  unfolding lowestFrom
+  lowestFrom-below zero k i h l = absurd (omega arith)
+  lowestFrom-below (suc n) k i h l =
+      cond-both (λ r. i < r → f i ≡ false) (f k) k (lowestFrom f n (k + 1)) (λ e m. absurd (omega arith))
+      (λ e m. last? h (λ p. rw p at e) (λ p. lowestFrom-below n (k + 1) i (omega arith) m)) l
+
+  pub lowestFrom-first : (n k i : ℕ) → k ≤ i → f i ≡ true → i < k + n → lowestFrom f n k ≤ i
+  unfolding lowestFrom
+  lowestFrom-first zero k i h e l = absurd (omega arith)
+  lowestFrom-first (suc n) k i h e l =
+      cond-both (λ r. r ≤ i) (f k) k (lowestFrom f n (k + 1)) (λ _. h)
+      (λ d. last? h (λ p. absurd (never-both (f i) e (rw p at d))) (λ p. lowestFrom-first n (k + 1) i (omega arith) e (omega arith)))
+
+pub lowestFrom-same : (f g : ℕ → Bool) (n k : ℕ) → ((i : ℕ) → k ≤ i → i < k + n → f i ≡ g i) → lowestFrom f n k ≡ lowestFrom g n k
+unfolding lowestFrom
+lowestFrom-same f g zero k h = refl
+lowestFrom-same f g (suc n) k h = rw (h k (omega arith) (omega arith), lowestFrom-same f g n (k + 1) (λ i p q. h i (omega arith) (omega arith))) refl
+
+-- ---- sumBelow
+
+module _ (f : ℕ → ℕ) where
+  pub sumBelow-turn : (i : ℕ) → sumBelow f (i + 1) ≡ sumBelow f i + f i
+  unfolding sumBelow
+  sumBelow-turn i = rw add-one refl
+
+  pub sumBelow-le : (i j : ℕ) → i ≤ j → sumBelow f i ≤ sumBelow f j
+  unfolding sumBelow
+  sumBelow-le i zero h = let e : i ≡ 0 = omega arith in rw e (omega arith)
+  sumBelow-le i (suc j) h = last? h (λ e. rw e (omega arith)) (λ k. omega (arith, sumBelow-le i j (omega arith)))
+
+  pub sumBelow-at : (i n : ℕ) → i < n → sumBelow f i + f i ≤ sumBelow f n
+  sumBelow-at i n h = omega (arith, sumBelow-turn i, sumBelow-le (i + 1) n (omega arith))
+
+pub sumBelow-same : (f g : ℕ → ℕ) (n : ℕ) → ((i : ℕ) → i < n → f i ≡ g i) → sumBelow f n ≡ sumBelow g n
+unfolding sumBelow
+sumBelow-same f g zero h = refl
+sumBelow-same f g (suc n) h = rw (sumBelow-same f g n (λ i l. h i (omega arith)), h n (omega arith)) refl
+
+-- ---- countBelow
+
+module _ (f : ℕ → Bool) where
+  pub countBelow-hit : (i : ℕ) → f i ≡ true → countBelow f (i + 1) ≡ countBelow f i + 1
+  unfolding countBelow
+  countBelow-hit i h = rw (add-one i, h) refl
+
+  pub countBelow-miss : (i : ℕ) → f i ≡ false → countBelow f (i + 1) ≡ countBelow f i
+  unfolding countBelow
+  countBelow-miss i h = rw (add-one, h) (omega arith)
+
+  pub countBelow-le : (n : ℕ) → countBelow f n ≤ n
+  unfolding countBelow
+  countBelow-le zero = omega arith
+  countBelow-le (suc n) = cond-both (λ r. countBelow f n + r ≤ suc n) (f n) 1 0 (λ _. omega (arith, countBelow-le n)) (λ _. omega (arith, countBelow-le n))
+
+pub countBelow-same : (f g : ℕ → Bool) (n : ℕ) → ((i : ℕ) → i < n → f i ≡ g i) → countBelow f n ≡ countBelow g n
+unfolding countBelow
+countBelow-same f g zero h = refl
+countBelow-same f g (suc n) h = rw (countBelow-same f g n (λ i l. h i (omega arith)), h n (omega arith)) refl
+
+-- ---- upto
+
+module _ {ℓ} {A : Type ℓ} (f : ℕ → A) where
+  pub length-upto : (n : ℕ) → length (upto f n) ≡ n
+  length-upto zero = refl
+  length-upto (suc n) = rw length-append (omega (arith, length-upto n))
+
+  pub getD-upto : (n i : ℕ) (d : A) → i < n → getD (upto f n) i d ≡ f i
+  getD-upto zero i d l = absurd (omega arith)
+  getD-upto (suc n) i d l =
+      last? {i = i} {n = n} (omega arith)
+      (λ e. getD-at (upto f n) (f n) [] d i (length-upto n ∙ sym e) ∙ ap f (sym e))
+      (λ k. List·getD-append (upto f n) (f n ∷ []) d i (rw (length-upto n) k) ∙ getD-upto n i d k)
+
+  -- a turn of a loop that stores f's next value, and the loop's end
+  pub fill-step : (xs : List A) (j : ℕ) (v : A) → j < length xs → take j xs ≡ upto f j → v ≡ f j → take (j + 1) (set xs j v) ≡ upto f (j + 1)
+  fill-step xs j v h e q = rw (add-one, take-suc-set xs j v, e, q)
+
+  pub fill-done : (xs : List A) (n j : ℕ) → j ≤ n → n ≤ j → length xs ≡ n → take j xs ≡ upto f j → xs ≡ upto f n
+  fill-done xs n j a b l e =
+      let q : j ≡ n = omega arith in
+      sym (take-all n xs (omega arith)) ∙ (rw q at e)
+
+pub upto-same {ℓ} : {A : Type ℓ} (f g : ℕ → A) (n : ℕ) → ((i : ℕ) → i < n → f i ≡ g i) → upto f n ≡ upto g n
+upto-same f g zero h = refl
+upto-same f g (suc n) h = rw (upto-same f g n (λ i l. h i (omega arith)), h n (omega arith)) refl

@@ -1,0 +1,58 @@
+-- Document 01, "Chains": "All reading and testing precedes storing." What a call stores is a list of runs of bytes, computed from the
+-- data base as it came; a store goes into one record, so into one block.
+use Prim.Native.Nat.{ℕ, zero, suc, _+_, _*_, _/_}
+use mathlib.Core.Bool.{Bool, true, false, _&&_}
+use mathlib.Core.List.{List, [], _∷_}
+use Rattle.octets.specs.Octets.{splice, wordBytes, zeros}
+use Rattle.blocks.specs.Blocks.{isSealed, seal}
+use Rattle.schema.specs.declared.Entry.{Entry}
+use Rattle.schema.specs.Place.{placeOf}
+
+-- bytes, and where they go
+pub record Store : Type 0 where
+  pub at : ℕ
+  pub bytes : List ℕ
+
+-- a run stored `o` bytes into record r of set e, a word stored there, a whole record, and a wiped one ("A wiped record is all zero.")
+abbrev pub storeRun : Entry → ℕ → ℕ → List ℕ → Store
+storeRun e r o ys = record { at = placeOf e r + o; bytes = ys }
+
+abbrev pub storeWord : Entry → ℕ → ℕ → ℕ → Store
+storeWord e r o v = storeRun e r o (wordBytes v)
+
+abbrev pub storeRecord : Entry → ℕ → List ℕ → Store
+storeRecord e r ys = record { at = placeOf e r; bytes = ys }
+
+abbrev pub wipeRecord : Entry → ℕ → Store
+wipeRecord e r = storeRecord e r (zeros (e .size))
+
+-- the block that a store goes into
+abbrev pub storeBlock : Store → ℕ
+storeBlock x = x .at / 512
+
+-- "a block to be stored into has a false check" is damage: this is the opposite
+unfoldable pub blocksSealed : List ℕ → List Store → Bool
+blocksSealed b [] = true
+blocksSealed b (x ∷ xs) = isSealed b (storeBlock x) && blocksSealed b xs
+
+-- the stores, one after the other
+unfoldable pub storeAll : List ℕ → List Store → List ℕ
+storeAll b [] = b
+storeAll b (x ∷ xs) = storeAll (splice b (x .at) (x .bytes)) xs
+
+-- "then the checks of the blocks stored into"
+unfoldable pub sealAll : List ℕ → List Store → List ℕ
+sealAll b [] = b
+sealAll b (x ∷ xs) = sealAll (seal b (storeBlock x)) xs
+
+-- what the stores leave
+unfoldable pub committed : List ℕ → List Store → List ℕ
+committed b xs = sealAll (storeAll b xs) xs
+
+-- "FORMT zeroes everything and sets the checks.": n blocks
+unfoldable pub sealBelow : ℕ → List ℕ → List ℕ
+sealBelow zero b = b
+sealBelow (suc n) b = seal (sealBelow n b) n
+
+unfoldable pub formatted : ℕ → List ℕ
+formatted n = sealBelow n (zeros (n * 512))

@@ -1,0 +1,7 @@
+// The fields of a record, and how an area becomes a record and a record an area.
+
+// A record's neighbours on one path, as its two link words: 0 is none.
+pub struct Link {
+    pub prior: u32,
+    pub next: u32,
+}

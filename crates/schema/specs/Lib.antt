@@ -1,0 +1,10 @@
+pub mod Fields
+pub mod Rules
+pub mod Layout
+pub mod Decode
+pub mod Place
+pub mod Guarantee
+pub mod PlaceLaws
+pub mod RuleFacts
+pub mod LayoutLaws
+pub mod GuaranteeLaws

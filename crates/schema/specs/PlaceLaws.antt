@@ -1,0 +1,98 @@
+-- Where the records of a set lie, as facts: each in the first 508 bytes of one block of the base, and no two on one another.
+-- To `omega` a quotient, a remainder and a product of two variables are unknowns; the first section holds the few facts about them, and
+-- everything below it is linear.
+use Prim.Native.Nat.{ℕ, _+_, _*_, _-_, _/_, _%_, _≤_, _<_}
+use mathlib.Core.Path.{_≡_, refl, sym, _∙_}
+use mathlib.Core.Logic.{_≢_, _⊎_, inl, inr}
+use mathlib.Core.Bool.{Bool, true, false}
+use mathlib.Core.List.{List}
+use native.Mathlib.Omega.{arith}
+use native.Mathlib.Nat.{mod-lt, mul-le-mul-right, div-lt-iff-lt-mul, lt-div-mul-add, div-add-mod'}
+use borrow.Author.Tests.{ltb-true, ltb-false}
+use lib.Dec.{ltb}
+use lib.ListN.{length, drop, length-drop}
+use lib.Seq.{length-take-le}
+use Rattle.octets.specs.Octets.{Apart}
+use Rattle.blocks.specs.Blocks.{blockAt, checkAt}
+use Rattle.schema.specs.declared.Entry.{Entry}
+use Rattle.schema.specs.Place.{InSet, blockOf, placeOf, recordOf, LiesIn}
+
+-- ---- quotients, remainders and products
+
+pub order? : (a b : ℕ) → (a < b) ⊎ (a ≡ b) ⊎ (b < a)
+order? a b = go (ltb a b) (ltb b a) refl refl
+  where
+    go : (s t : Bool) → ltb a b ≡ s → ltb b a ≡ t → (a < b) ⊎ (a ≡ b) ⊎ (b < a)
+    go true t p q = inl (ltb-true a b p)
+    go false true p q = inr (inr (ltb-true b a q))
+    go false false p q = inr (inl (omega (arith, ltb-false a b p, ltb-false b a q)))
+
+-- a larger number has no smaller quotient
+pub div-mono : (a b k : ℕ) → 1 ≤ k → a ≤ b → a / k ≤ b / k
+div-mono a b k h l =
+    let t : a / k < b / k + 1 = div-lt-iff-lt-mul {k = k} {x = a} {y = b / k + 1} (omega arith) .1 (omega (arith, lt-div-mul-add {a = b} {b = k} (omega arith))) in
+    omega arith
+
+-- the whole records of a block end by byte 508
+pub in-block : (k per size : ℕ) → 1 ≤ per → per * size ≤ 508 → k % per * size + size ≤ 508
+in-block k per size h l =
+    let m : k % per < per = mod-lt k (omega arith) in
+    omega (arith, mul-le-mul-right size m)
+
+-- a quotient and a remainder tell the number
+div-mod-same : (a b k : ℕ) → a / k ≡ b / k → a % k ≡ b % k → a ≡ b
+div-mod-same a b k p q = sym (div-add-mod' a k) ∙ (rw (p, q) (div-add-mod' b k))
+
+-- ---- one record
+
+-- its block is in the base
+pub block-inside : {e : Entry} {n : ℕ} (r : ℕ) → LiesIn e n → InSet e r → blockAt (blockOf e r) + 512 ≤ n
+unfolding blockOf
+block-inside {e} r ok in-set = omega (arith, div-mono (r - 1) (e .records - 1) (e .per) (ok .per) (omega arith))
+
+-- it lies in its block, in front of the check
+pub place-in-block : {e : Entry} {n : ℕ} (r : ℕ) → LiesIn e n → (blockAt (blockOf e r) ≤ placeOf e r) × (placeOf e r + e .size ≤ checkAt (blockOf e r))
+unfolding placeOf
+place-in-block {e} r ok = let h = in-block (r - 1) (e .per) (e .size) (ok .per) (ok .whole) in (omega arith, omega arith)
+
+-- it lies in the base
+pub place-inside : {e : Entry} {n : ℕ} (r : ℕ) → LiesIn e n → InSet e r → placeOf e r + e .size ≤ n
+place-inside r ok in-set = omega (arith, place-in-block r ok, block-inside r ok in-set)
+
+-- the block of any place in it, and of its end
+pub block-of-place : {e : Entry} {n : ℕ} (r o : ℕ) → LiesIn e n → o ≤ e .size → (placeOf e r + o) / 512 ≡ blockOf e r
+block-of-place r o ok h = omega (arith, place-in-block r ok)
+
+-- its bytes are as many as the set says
+pub record-length : (b : List ℕ) (e : Entry) (r : ℕ) → LiesIn e (length b) → InSet e r → length (recordOf b e r) ≡ e .size
+record-length b e r ok in-set =
+    let p = place-inside r ok in-set in
+    length-take-le (e .size) (drop (placeOf e r) b) (rw length-drop (omega arith))
+
+-- ---- two records of one set
+
+module _ {e : Entry} {n : ℕ} (r q : ℕ) (ok : LiesIn e n) where
+  -- one lies behind the other
+  records-ordered : (r - 1 ≡ q - 1 → ⊥) → (placeOf e r + e .size ≤ placeOf e q) ⊎ (placeOf e q + e .size ≤ placeOf e r)
+  unfolding placeOf blockOf
+  records-ordered h = go (order? ((r - 1) / e .per) ((q - 1) / e .per)) (order? ((r - 1) % e .per) ((q - 1) % e .per))
+    where
+      below : (k : ℕ) → k % e .per * e .size + e .size ≤ 508
+      below k = in-block k (e .per) (e .size) (ok .per) (ok .whole)
+
+      go : ((r - 1) / e .per < (q - 1) / e .per) ⊎ ((r - 1) / e .per ≡ (q - 1) / e .per) ⊎ ((q - 1) / e .per < (r - 1) / e .per)
+          → ((r - 1) % e .per < (q - 1) % e .per) ⊎ ((r - 1) % e .per ≡ (q - 1) % e .per) ⊎ ((q - 1) % e .per < (r - 1) % e .per)
+          → (placeOf e r + e .size ≤ placeOf e q) ⊎ (placeOf e q + e .size ≤ placeOf e r)
+      go (inl d) m = inl (omega (arith, below (r - 1)))
+      go (inr (inr d)) m = inr (omega (arith, below (q - 1)))
+      go (inr (inl d)) (inl m) = inl (omega (arith, mul-le-mul-right (e .size) m))
+      go (inr (inl d)) (inr (inr m)) = inr (omega (arith, mul-le-mul-right (e .size) m))
+      go (inr (inl d)) (inr (inl m)) = absurd (h (div-mod-same (r - 1) (q - 1) (e .per) d m))
+
+  -- they have no place in common
+  pub records-apart : InSet e r → InSet e q → r ≢ q → Apart (placeOf e r) (e .size) (placeOf e q) (e .size)
+  records-apart in-r in-q h a b = go (records-ordered (λ k. h (omega arith)))
+    where
+      go : (placeOf e r + e .size ≤ placeOf e q) ⊎ (placeOf e q + e .size ≤ placeOf e r) → ⊥
+      go (inl k) = omega arith
+      go (inr k) = omega arith

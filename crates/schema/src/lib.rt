@@ -1,0 +1,40 @@
+// The schema: what it says once it is decoded, and the judgement of every rule that document 01 makes for it.
+use terms::BlockNo;
+use terms::EntryNo;
+
+// A path of a variable set, with what every call on it needs.
+pub struct Path {
+    pub letters: [u8; 2], // xx
+    pub master: EntryNo,
+    pub len: u8, // the master's key length
+    pub at: u16, // where the path's key stands in the variable record; prior and next follow the key
+    pub link: u16, // where first stands in the master's record; last follows it
+}
+
+// A set, with its layout.
+pub struct Entry {
+    pub name: u32, // the four characters
+    pub kind: u8, // 1 master, 2 variable
+    pub count: u8, // paths
+    pub room: u16, // D, the data length
+    pub records: u32, // R
+    pub key: u8, // K, 0 for a variable
+    pub per: u16, // whole records to a block
+    pub size: u32, // L, the record length
+    pub body: u16, // where the D bytes stand in a record
+    pub first: BlockNo,
+    pub paths: [Path; 4],
+}
+
+pub struct Schema {
+    pub masters: u8, // M
+    pub variables: u8, // V
+    pub blocks: u32, // T
+    pub entries: [Entry; 8],
+}
+
+// The answer of decoding: whether the schema keeps every rule, and if so what it says.
+pub struct Decoded {
+    pub ok: bool,
+    pub schema: Schema,
+}

@@ -1,0 +1,1 @@
+// Sign-on's judgement: whether a data base is sound.

@@ -1,0 +1,23 @@
+-- `terms::Key::of` meets its contract: what is copied in is read again.
+use mathlib.Core.Path.{refl}
+use native.Mathlib.Omega.{arith}
+use denote.Ref.{now}
+use Rattle.octets.specs.Octets.{zeros}
+use Rattle.octets.specs.SpliceLaws.{run-splice}
+use borrow.Author.Needs.{needs}
+use Rattle.terms.proofs.Key.of.Statement.{statement}
+use Rattle.terms.proofs.Key.of.Tie as tie
+
+slice-aggregate-copy-in : tie.Need-slice-aggregate-copy-in
+slice-aggregate-copy-in c = search needs
+
+copy-in-requires : tie.Need-copy-in-requires
+copy-in-requires c κs = search needs
+
+returns : tie.Need-returns
+returns c =
+    let s = c .before .before .before .before in
+    (rw (c .before .copy-in .ensures) (run-splice (zeros 16) 0 (now (s .args .s)) (omega arith)), refl)
+
+pub of-spec : {M : Type 1} → statement M
+of-spec = tie.close (tie.spec slice-aggregate-copy-in copy-in-requires returns)

@@ -1,0 +1,4 @@
+pub mod Terms
+pub mod Status
+pub mod Operation
+pub mod Laws

@@ -1,0 +1,38 @@
+//! A model of document 01 in plain Rust, written from the document alone.
+//!
+//! It is meant to be read beside the document: the modules follow its
+//! sections and use its words. Speed comes second. The model is worth
+//! something as a second opinion, so it shares nothing with the proved store.
+//!
+//! [`call`] is the whole interface of the store. Each call works on a data
+//! base that it can only read, and gives back either a status or an answer
+//! with a list of stores; one place carries the list out. So a refused call
+//! cannot have changed anything.
+
+mod block;
+mod bytes;
+mod call;
+pub mod console;
+mod database;
+mod home;
+mod ladder;
+mod layout;
+mod masters;
+mod operation;
+pub mod reference;
+mod schema;
+mod sound;
+mod status;
+mod stores;
+mod sweep;
+mod variables;
+
+pub use block::{block_check, seal, sealed, BLOCK};
+pub use call::{call, format};
+pub use database::{DataBase, Record, Set};
+pub use home::{find, home, Search};
+pub use layout::{Layout, Place, MASTER_KEY, ROOT_NEXT, ROOT_PRIOR, STATE};
+pub use operation::Operation;
+pub use schema::{Entry, Kind, Path, Schema};
+pub use sound::sound;
+pub use status::Status;
