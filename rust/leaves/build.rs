@@ -1,15 +1,32 @@
-//! Links the proved leaves. `rt staticlib probes`, run at the repository root,
-//! builds them beforehand.
+//! Builds the driver that calls the C entries, as a program of its own: the
+//! proved library is for x86-64, and this machine may be another.
 
 use std::env;
 use std::path::Path;
+use std::process::Command;
 
 fn main() {
     let package = env::var("CARGO_MANIFEST_DIR").expect("cargo names the package's directory");
-    let directory = Path::new(&package).join("../../target/staticlib");
-    let library = directory.join("libprobes.a");
+    let repository = Path::new(&package).join("../..");
+    let library = repository.join("target/staticlib/libprobes.a");
+    let source = Path::new(&package).join("driver.c");
+    let driver = Path::new(&env::var("OUT_DIR").expect("cargo names a directory")).join("driver");
+    for file in [&library, &source, &repository.join("tools/cc-x86")] {
+        println!("cargo:rerun-if-changed={}", file.display());
+    }
     println!("cargo:rerun-if-changed=build.rs");
-    println!("cargo:rerun-if-changed={}", library.display());
-    println!("cargo:rustc-link-search=native={}", directory.display());
-    println!("cargo:rustc-link-lib=static=probes");
+    assert!(
+        library.exists(),
+        "`rt staticlib probes`, run at the repository root, comes first"
+    );
+    let built = Command::new(repository.join("tools/cc-x86"))
+        .args([&driver, &source, &library])
+        .status()
+        .expect("the compiler's script starts");
+    assert!(built.success(), "the driver was not built");
+    println!("cargo:rustc-env=DRIVER={}", driver.display());
+    println!(
+        "cargo:rustc-env=RUN_X86={}",
+        repository.join("tools/run-x86").display()
+    );
 }

@@ -1,2 +1,3 @@
 pub mod Find
 pub mod Root
+pub mod FindLaws

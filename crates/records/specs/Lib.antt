@@ -1,3 +1,12 @@
 pub mod Records
 pub mod Areas
 pub mod Address
+pub mod FieldPlaces
+pub mod AddressLaws
+pub mod FieldLaws
+pub mod WholeRecords
+pub mod FieldsByAddress
+pub mod Memory
+pub mod FillerLaws
+pub mod RecordLaws
+pub mod AreaLaws

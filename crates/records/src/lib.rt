@@ -1,5 +1,8 @@
 // The fields of a record, and how an area becomes a record and a record an area.
 
+pub mod areas;
+pub mod fields;
+
 // A record's neighbours on one path, as its two link words: 0 is none.
 pub struct Link {
     pub prior: u32,

@@ -20,8 +20,8 @@ use Rattle.schema.specs.Fields.{mastersOf, setsOf, entryAt, slotAt, name
 use Rattle.schema.specs.Layout.{pathKeyLength, keyPlace, linkPlace, bodyPlace, lengthOf, perBlock, firstBlock, keepsRules}
 use Rattle.schema.specs.Decode.{noPath, noEntry, entryOf, pathOf, setCount, pathFrom, entryFrom, schemaOf, decodedOf}
 use Rattle.schema.specs.Guarantee.{SetOk, MasterOk, VariableOk, PathOk, IsPathOf, SchemaOk}
-use Rattle.schema.specs.PlaceLaws.{order?}
-use Rattle.schema.specs.Place.{LiesIn}
+use Rattle.schema.specs.PlaceLaws.{order?, div-mono, place-in-block, records-apart}
+use Rattle.schema.specs.Place.{InSet, blockOf, placeOf, LiesIn}
 use Rattle.schema.specs.RuleFacts.{head-facts, total-blocks, set-facts, name-facts, master-facts, variable-facts, path-facts, names-differ, letters-differ}
 use Rattle.schema.specs.LayoutLaws.{key-above, keys-ordered, body-variable, body-master, link-above, link-inside, links-ordered, per-some, per-whole, blocks-last, sets-ordered}
 
@@ -199,3 +199,25 @@ pub lies : {t : Schema} {n : ℕ} (i : ℕ) → SchemaOk t → i < setCount t �
 lies i ok l e =
     let f = ok .set i l in
     record { per = f .per; whole = f .whole; sized = f .sized; many = f .many; inside = omega arith; small = omega arith }
+
+-- a record of an earlier set stands in an earlier block
+sets-before : {t : Schema} (i k r q : ℕ) → SchemaOk t → i < k → k < setCount t → InSet (entryOf t i) r → blockOf (entryOf t i) r < blockOf (entryOf t k) q
+unfolding blockOf
+sets-before {t} i k r q ok l m in-r =
+    omega (arith, ok .sets-apart i k l m, div-mono (r - 1) (entryOf t i .records - 1) (entryOf t i .per) (ok .set i (omega arith) .per) (omega arith))
+
+-- any two records of the base have no place in common
+pub places-apart : {t : Schema} (i k r q : ℕ) → SchemaOk t → i < setCount t → k < setCount t → InSet (entryOf t i) r → InSet (entryOf t k) q
+    → ((i ≡ k) × (r ≡ q) → ⊥) → Apart (placeOf (entryOf t i) r) (entryOf t i .size) (placeOf (entryOf t k) q) (entryOf t k .size)
+places-apart {t} i k r q ok li lk in-r in-q h a b = go (order? i k)
+  where
+    of-i : LiesIn (entryOf t i) (512 * t .blocks)
+    of-i = lies i ok li refl
+
+    of-k : LiesIn (entryOf t k) (512 * t .blocks)
+    of-k = lies k ok lk refl
+
+    go : (i < k) ⊎ (i ≡ k) ⊎ (k < i) → ⊥
+    go (inl l) = omega (arith, sets-before i k r q ok l lk in-r, place-in-block r of-i, place-in-block q of-k)
+    go (inr (inl e)) = records-apart r q of-i in-r (rw (← e) at in-q) (λ d. h (e, d)) (rw (← e) at a) (rw (← e) at b)
+    go (inr (inr l)) = omega (arith, sets-before k i q r ok l li in-q, place-in-block r of-i, place-in-block q of-k)

@@ -81,16 +81,18 @@ length-some s i = go (ltb i (mastersOf s)) refl
 
 -- "floor(508/L) whole records to a block": at least one, and they end by byte 508
 pub per-some : (s : List ℕ) (i : ℕ) → lengthOf s i ≤ 508 → 1 ≤ perBlock s i
-per-some s i h = let l = length-some s i in le-div-iff-mul-le {k = lengthOf s i} {x = 1} {y = 508} (omega arith) .1 (omega arith)
+per-some s i h = let l = length-some s i in le-div-iff-mul-le {k = lengthOf s i} {x = 1} (omega arith) .1 (omega arith)
 
 pub per-whole : (s : List ℕ) (i : ℕ) → perBlock s i * lengthOf s i ≤ 508
-per-whole s i = div-mul-le-self 508 (lengthOf s i)
+per-whole s i = omega (arith, div-mul-le-self 508 (lengthOf s i))
 
--- the last record's block is one of the set's
+-- a quotient that is rounded up
+pub rounded : (x r k : ℕ) → 1 ≤ k → x ≡ r - 1 + k → x / k ≡ (r - 1) / k + 1
+rounded x r k h e = rw e (add-div-right (r - 1) {k = k} h)
+
+-- the last record's block is the last of the set's
 pub blocks-last : (s : List ℕ) (i : ℕ) → 1 ≤ perBlock s i → 1 ≤ recordsOf s i → blocksOf s i ≡ (recordsOf s i - 1) / perBlock s i + 1
-blocks-last s i p r =
-    let e : recordsOf s i + (perBlock s i - 1) ≡ recordsOf s i - 1 + perBlock s i = omega arith in
-    rw e (add-div-right (recordsOf s i - 1) {k = perBlock s i} p)
+blocks-last s i p r = rounded _ (recordsOf s i) (perBlock s i) p (omega arith)
 
 -- "Sets lie .. in entry order, each from a fresh block"
 pub sets-ordered : (s : List ℕ) (i k : ℕ) → i < k → firstBlock s i + blocksOf s i ≤ firstBlock s k

@@ -2,12 +2,12 @@
 -- To `omega` a quotient, a remainder and a product of two variables are unknowns; the first section holds the few facts about them, and
 -- everything below it is linear.
 use Prim.Native.Nat.{ℕ, _+_, _*_, _-_, _/_, _%_, _≤_, _<_}
-use mathlib.Core.Path.{_≡_, refl, sym, _∙_}
+use mathlib.Core.Path.{_≡_, refl, sym, ap, _∙_}
 use mathlib.Core.Logic.{_≢_, _⊎_, inl, inr}
 use mathlib.Core.Bool.{Bool, true, false}
 use mathlib.Core.List.{List}
 use native.Mathlib.Omega.{arith}
-use native.Mathlib.Nat.{mod-lt, mul-le-mul-right, div-lt-iff-lt-mul, lt-div-mul-add, div-add-mod'}
+use native.Mathlib.Nat.{zero-div, zero-mod, mod-lt, mul-le-mul-right, div-lt-iff-lt-mul, lt-div-mul-add, div-add-mod'}
 use borrow.Author.Tests.{ltb-true, ltb-false}
 use lib.Dec.{ltb}
 use lib.ListN.{length, drop, length-drop}
@@ -45,7 +45,16 @@ div-mod-same a b k p q = sym (div-add-mod' a k) ∙ (rw (p, q) (div-add-mod' b k
 
 -- ---- one record
 
--- its block is in the base
+-- "L the record length, at most 508"
+pub size-most : {e : Entry} {n : ℕ} → LiesIn e n → e .size ≤ 508
+size-most {e} ok = omega (arith, in-block 0 (e .per) (e .size) (ok .per) (ok .whole))
+
+-- the first record begins the set's first block
+pub place-first : (e : Entry) → placeOf e 1 ≡ blockAt (e .first .0)
+unfolding placeOf blockOf
+place-first e = omega (arith, zero-div (e .per), ap (λ (k : ℕ). k * e .size) (zero-mod (e .per)))
+
+-- a record's block is in the base
 pub block-inside : {e : Entry} {n : ℕ} (r : ℕ) → LiesIn e n → InSet e r → blockAt (blockOf e r) + 512 ≤ n
 unfolding blockOf
 block-inside {e} r ok in-set = omega (arith, div-mono (r - 1) (e .records - 1) (e .per) (ok .per) (omega arith))
@@ -62,6 +71,9 @@ place-inside r ok in-set = omega (arith, place-in-block r ok, block-inside r ok 
 -- the block of any place in it, and of its end
 pub block-of-place : {e : Entry} {n : ℕ} (r o : ℕ) → LiesIn e n → o ≤ e .size → (placeOf e r + o) / 512 ≡ blockOf e r
 block-of-place r o ok h = omega (arith, place-in-block r ok)
+
+pub block-of-record : {e : Entry} {n : ℕ} (r : ℕ) → LiesIn e n → placeOf e r / 512 ≡ blockOf e r
+block-of-record r ok = omega (arith, place-in-block r ok)
 
 -- its bytes are as many as the set says
 pub record-length : (b : List ℕ) (e : Entry) (r : ℕ) → LiesIn e (length b) → InSet e r → length (recordOf b e r) ≡ e .size

@@ -9,7 +9,6 @@ use borrow.Author.Tests.{leb-true, ltb-true, eqb-true, not-true, lt-ltb, le-ltb,
 use lib.Dec.{eqb, leb}
 use lib.ListN.{length}
 use Rattle.octets.specs.Octets.{byteAt, sameBytes}
-use Rattle.octets.specs.Below.{allBelow}
 use Rattle.octets.specs.BelowLaws.{allBelow-at}
 use Rattle.schema.specs.Fields.{mastersOf, variablesOf, setsOf, entryAt, nameOf, kindOf, countOf, recordsOf, keyLengthOf, lettersOf, masterOf}
 use Rattle.schema.specs.Rules.{isCapital, isCapitalOrDigit, blockRule, headRule, nameRule, masterRule, variableRule, countRule, pathRule, slotRule, setRule, entryRule, namesRule, clash, lettersRule, formRule}
@@ -85,16 +84,13 @@ module _ (s : List ℕ) (kept : keepsRules s ≡ true) where
   unfolding keepsRules
   form = (simp and-eq-true-iff at kept) .0
 
-  sizes : (allBelow (λ i. leb (lengthOf s i) 508) (setsOf s) ≡ true) × (leb (totalBlocks s) 4096 ≡ true)
-  unfolding keepsRules sizeRule
-  sizes = (simp and-eq-true-iff at kept) .1
-
   pub head-facts : HeadFacts s
   unfolding formRule blockRule headRule
   head-facts = omega (arith, tests, simp and-eq-true-iff at form)
 
   pub total-blocks : totalBlocks s ≤ 4096
-  total-blocks = leb-true (totalBlocks s) 4096 (sizes .1)
+  unfolding keepsRules sizeRule
+  total-blocks = omega (arith, tests, simp and-eq-true-iff at kept)
 
   -- a used entry keeps the rule for entries
   a-set : (i : ℕ) → i < setsOf s → setRule s i ≡ true
@@ -127,8 +123,10 @@ module _ (s : List ℕ) (kept : keepsRules s ≡ true) where
       go (inr (inr k)) = omega (arith, variable-facts i (omega arith) l)
 
   pub set-facts : (i : ℕ) → i < setsOf s → SetFacts s i
-  unfolding setRule countRule
-  set-facts i l = omega (arith, tests, few-paths i l, allBelow-at _ (setsOf s) i (sizes .0) l, simp and-eq-true-iff at (a-set i l))
+  unfolding keepsRules sizeRule setRule countRule
+  set-facts i l =
+      let fits = allBelow-at _ (setsOf s) i ((simp and-eq-true-iff at kept) .1 .0) l in
+      omega (arith, tests, fits, few-paths i l, simp and-eq-true-iff at (a-set i l))
 
   -- a path leads to a master, and only variable sets have paths
   pub path-facts : (i j : ℕ) → i < setsOf s → j < countOf s i → masterOf s i j < mastersOf s

@@ -4,3 +4,4 @@ pub mod Ladder
 pub mod Reply
 pub mod Outcome
 pub mod Theorems
+pub mod LadderLaws

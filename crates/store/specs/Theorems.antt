@@ -4,7 +4,8 @@ use mathlib.Core.Path.{_≡_, refl, sym, _∙_}
 use mathlib.Core.List.{List}
 use mathlib.Core.Bool.{Bool, true, false, cond}
 use lib.Dec.{eqb}
-use borrow.Author.Tests.{ne-eqb, eq-eqb}
+use borrow.Author.Tests.{eqb-true}
+use Rattle.terms.specs.Laws.{status-number-one}
 use Rattle.terms.specs.declared.Status.{Status}
 use Rattle.terms.specs.declared.Status.the-variants.{Done}
 use Rattle.terms.specs.Status.{statusNumber}
@@ -35,7 +36,22 @@ either : (b : Bool) (c : Call) (o : Outcome) (s : Status) → o .status ≡ Done
 either true c o s e n = absurd (n e)
 either false c o s e n = refl
 
-pub refused-changes-nothing : (c : Call) → (outcome c .status ≡ Done → ⊥) → outcome c ≡ refused c (outcome c .status)
+pub refused-changes-nothing : (c : Call) → (outcome c .status ≡ Done → ⊥)
+    → outcome c ≡ record { status = outcome c .status; reference = c .reference; area = c .area; base = c .base }
 unfolding outcome outcomeIn done
 refused-changes-nothing c n =
     either (eqb (statusNumber (refusal (ladder (sceneOf c) c))) 0) c (done (sceneOf c) c) (refusal (ladder (sceneOf c) c)) refl n
+
+-- the status is the one that the ladder gives
+zero-done : (s : Status) → eqb (statusNumber s) 0 ≡ true → s ≡ Done
+zero-done s h = status-number-one s Done (eqb-true (statusNumber s) 0 h)
+
+decided : (b : Bool) (s : Status) (o : Outcome) (c : Call) → o .status ≡ Done → (b ≡ true → s ≡ Done) → cond b o (refused c s) .status ≡ s
+decided true s o c e d = e ∙ sym (d refl)
+decided false s o c e d = refl
+
+pub status-of-ladder : (c : Call) → outcome c .status ≡ refusal (ladder (sceneOf c) c)
+unfolding outcome outcomeIn done
+status-of-ladder c =
+    decided (eqb (statusNumber (refusal (ladder (sceneOf c) c))) 0) (refusal (ladder (sceneOf c) c)) (done (sceneOf c) c) c refl
+    (zero-done (refusal (ladder (sceneOf c) c)))

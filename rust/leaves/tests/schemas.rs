@@ -47,7 +47,7 @@ fn random_schemas() {
 /// of numbers and bytes that must be zero are all among them.
 #[test]
 fn every_value_of_every_byte() {
-    let fullest = rules::kept().swap_remove(1).1.encode();
+    let fullest = rules::fullest().encode();
     for valid in [small_store().to_vec(), rules::plain().encode(), fullest] {
         for at in 0..BLOCK - 4 {
             for value in 0..=u8::MAX {

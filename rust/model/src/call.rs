@@ -4,6 +4,7 @@
 use crate::block::{seal, BLOCK};
 use crate::database::DataBase;
 use crate::ladder::{refuse, Request};
+use crate::links::{self, Position};
 use crate::masters;
 use crate::operation::Operation;
 use crate::schema::Schema;
@@ -11,7 +12,7 @@ use crate::sound::sound;
 use crate::status::Status;
 use crate::stores::Answer;
 use crate::sweep;
-use crate::variables::{self, Direction, Position};
+use crate::variables::{self, Direction};
 
 /// "A call is given: operation (5 bytes), set name (4), reference (32 bits),
 /// path name (8), control key, area, schema, data base. It returns status and
@@ -78,10 +79,10 @@ fn perform(schema: &Schema, request: &Request, bytes: &mut [u8]) -> Result<Answe
         Operation::Readr => variables::read_along(Direction::Backward, base, request)?,
         Operation::Readd => variables::read_d(base, request)?,
         Operation::Writv => variables::writ_v(base, request)?,
-        Operation::Addvc => variables::add(Position::Last, base, request)?,
-        Operation::Addvb => variables::add(Position::Before, base, request)?,
-        Operation::Addva => variables::add(Position::After, base, request)?,
-        Operation::Delvd => variables::del_vd(base, request)?,
+        Operation::Addvc => links::add(Position::Last, base, request)?,
+        Operation::Addvb => links::add(Position::Before, base, request)?,
+        Operation::Addva => links::add(Position::After, base, request)?,
+        Operation::Delvd => links::del_vd(base, request)?,
     };
     answer.stores.carry_out(bytes)?;
     Ok(answer)

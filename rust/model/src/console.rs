@@ -44,9 +44,9 @@ pub fn run(input: &[u8]) -> Vec<u8> {
 /// A last line without newline counts; nothing after the last newline is no
 /// line.
 fn lines(input: &[u8]) -> impl Iterator<Item = &[u8]> {
-    let whole = input.strip_suffix(b"\n").unwrap_or(input);
-    let lines = whole.split(|&byte| byte == b'\n');
-    lines.take(if input.is_empty() { 0 } else { usize::MAX })
+    input
+        .split_inclusive(|&byte| byte == b'\n')
+        .map(|line| line.strip_suffix(b"\n").unwrap_or(line))
 }
 
 /// "six blank-separated fields a line (operation, set, reference, path, key,

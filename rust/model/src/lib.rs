@@ -12,11 +12,13 @@
 mod block;
 mod bytes;
 mod call;
+mod chains;
 pub mod console;
 mod database;
 mod home;
 mod ladder;
 mod layout;
+mod links;
 mod masters;
 mod operation;
 pub mod reference;

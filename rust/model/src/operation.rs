@@ -1,7 +1,7 @@
 //! "The calls we buy".
 
 /// The sixteen operations.
-#[derive(Clone, Copy, Debug, PartialEq, Eq, Hash)]
+#[derive(Clone, Copy, Debug, PartialEq, Eq, PartialOrd, Ord, Hash)]
 pub enum Operation {
     Formt,
     Sinon,

@@ -117,6 +117,19 @@ fn homes() {
         fixture.poke_pointer("BOTL", 1, ROOT_NEXT, 4);
         fixture.poke_pointer("BOTL", 4, ROOT_PRIOR, 1);
     });
+    // Two chains have changed their last records.
+    not_sound(|fixture| {
+        done(
+            fixture
+                .on_set("ADD-M", "BOTL", 0, b"B008", b"B008NECK")
+                .status,
+        );
+        done(fixture.sinon());
+        fixture.poke_pointer("BOTL", 2, ROOT_NEXT, 3);
+        fixture.poke_pointer("BOTL", 3, ROOT_PRIOR, 2);
+        fixture.poke_pointer("BOTL", 4, ROOT_NEXT, 1);
+        fixture.poke_pointer("BOTL", 1, ROOT_PRIOR, 4);
+    });
     // A master away from its home, which is free.
     not_sound(|fixture| {
         let record = fixture.view().set(0).record(4).bytes.to_vec();
@@ -164,6 +177,15 @@ fn chains_hold_exactly_the_records_of_the_key() {
         fixture.poke_pointer("PNTS", 3, 12, 4);
         fixture.poke_pointer("PNTS", 4, 8, 3);
         fixture.poke_pointer("BOTL", 2, 20, 4);
+    });
+    // Points 3 and 4 have changed chains.
+    not_sound(|fixture| {
+        fixture.poke_pointer("PNTS", 2, 12, 4);
+        fixture.poke_pointer("PNTS", 4, 8, 2);
+        fixture.poke_pointer("BOTL", 2, 20, 4);
+        fixture.poke_pointer("PNTS", 3, 8, 0);
+        fixture.poke_pointer("BOTL", 5, 16, 3);
+        fixture.poke_pointer("BOTL", 5, 20, 3);
     });
     // The whole chain is left out.
     not_sound(|fixture| {

@@ -1,4 +1,4 @@
-//! A call's parameters as one value, and the model as a store to call.
+//! A call's parameters as one value, and stores to call.
 
 use yarugota_model::Status;
 
@@ -26,4 +26,36 @@ pub fn model(call: &mut Call, schema: &[u8], base: &mut [u8]) -> (Status, u32) {
         schema,
         base,
     )
+}
+
+/// What a call came to.
+#[derive(Clone, Debug, PartialEq, Eq)]
+pub struct Answered {
+    pub status: Status,
+    pub reference: u32,
+    /// The area after the call.
+    pub area: Vec<u8>,
+}
+
+/// Makes a call on a store. Panics if the call is refused and has changed
+/// something all the same.
+pub fn make(
+    mut store: impl FnMut(&mut Call, &[u8], &mut [u8]) -> (Status, u32),
+    call: &Call,
+    schema: &[u8],
+    base: &mut [u8],
+) -> Answered {
+    let mut made = call.clone();
+    let before = base.to_vec();
+    let (status, reference) = store(&mut made, schema, base);
+    if status != Status::Done {
+        assert_eq!(reference, call.reference, "reference of refused {call:?}");
+        assert_eq!(made.area, call.area, "area of refused {call:?}");
+        assert!(base == before, "data base of refused {call:?}");
+    }
+    Answered {
+        status,
+        reference,
+        area: made.area,
+    }
 }

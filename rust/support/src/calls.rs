@@ -23,11 +23,6 @@ impl<'a> CallMaker<'a> {
         CallMaker { schema, keys }
     }
 
-    /// All keys that calls use for a master set.
-    pub fn keys(&self, entry: usize) -> &[Vec<u8>] {
-        &self.keys[entry]
-    }
-
     /// A call that is well made as far as names and lengths go, so that what
     /// the store holds decides the answer. It mostly fits what `base` holds.
     pub fn likely(&self, random: &mut Random, base: &[u8]) -> Call {

@@ -2,7 +2,7 @@
 
 use yarugota_model::{format, seal, DataBase, Schema, Status, BLOCK};
 
-use crate::{model, Call};
+use crate::{make, model, Answered, Call};
 
 /// A store with its schema, its data base, and calls written short. The calls
 /// go to the model.
@@ -11,15 +11,6 @@ pub struct Fixture {
     pub schema: Vec<u8>,
     pub decoded: Schema,
     pub base: Vec<u8>,
-}
-
-/// What a call came to.
-#[derive(Clone, Debug, PartialEq, Eq)]
-pub struct Answered {
-    pub status: Status,
-    pub reference: u32,
-    /// The area after the call.
-    pub area: Vec<u8>,
 }
 
 impl Fixture {
@@ -35,22 +26,9 @@ impl Fixture {
         }
     }
 
-    /// Makes a call. A refused one must change nothing, so that is tested
-    /// here, on every call of every test.
+    /// Makes a call, and tests that a refused one changes nothing.
     pub fn make(&mut self, call: &Call) -> Answered {
-        let mut made = call.clone();
-        let before = self.base.clone();
-        let (status, reference) = model(&mut made, &self.schema, &mut self.base);
-        if status != Status::Done {
-            assert_eq!(reference, call.reference, "reference of refused {call:?}");
-            assert_eq!(made.area, call.area, "area of refused {call:?}");
-            assert!(self.base == before, "data base of refused {call:?}");
-        }
-        Answered {
-            status,
-            reference,
-            area: made.area,
-        }
+        make(model, call, &self.schema, &mut self.base)
     }
 
     /// A call on a master set, or one that names no path.
@@ -127,6 +105,6 @@ impl Fixture {
 }
 
 /// A name of fixed length.
-pub fn bytes<const N: usize>(name: &str) -> [u8; N] {
+fn bytes<const N: usize>(name: &str) -> [u8; N] {
     name.as_bytes().try_into().expect("a name of that length")
 }

@@ -12,10 +12,11 @@ mod fixture;
 pub mod lists;
 pub mod random;
 pub mod rules;
+pub mod runs;
 pub mod schemas;
 pub mod stock;
 pub mod vectors;
 
-pub use call::{model, Call};
-pub use fixture::{Answered, Fixture};
+pub use call::{make, model, Answered, Call};
+pub use fixture::Fixture;
 pub use random::{Random, Trace};

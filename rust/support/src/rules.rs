@@ -332,7 +332,7 @@ pub fn kept() -> Vec<(String, Draft)> {
 }
 
 /// Four masters, and four variable sets with four paths each.
-fn fullest() -> Draft {
+pub fn fullest() -> Draft {
     let masters = [(b"AAAA", 4), (b"Z000", 8), (b"A999", 12), (b"ZZZZ", 16)];
     let letters = [b"00", b"99", b"AA", b"ZZ"];
     Draft {
