@@ -1,7 +1,7 @@
 /* Yarugota: the C interface, as far as it stands.
  *
- * Every function takes buffers of any length and contents and refuses what is bad by its answer; none has a precondition. A pointer
- * may be anything where its length is 0.
+ * Every function takes buffers of any length and contents and refuses what is bad by its answer; none has a precondition on what they
+ * hold. A pointer is not null, also where its length is 0.
  */
 #ifndef YARUGOTA_H
 #define YARUGOTA_H

@@ -1,6 +1,6 @@
--- Areas and records: where an area's keys and a record's fields stand, that a record's fields stored one behind the other are one splice,
--- and that they are as long as the record.
-use Prim.Native.Nat.{ℕ, zero, suc, _+_, _-_, _≤_, _<_}
+-- Areas: what a set's layout says of its fields, where an area's keys stand, and that a record's keys and D bytes, stored one behind the other,
+-- are the record's area.
+use Prim.Native.Nat.{ℕ, zero, suc, _+_, _≤_, _<_}
 use mathlib.Core.Path.{_≡_, refl, sym, ap, _∙_}
 use mathlib.Core.Bool.{Bool, true, false, cond}
 use mathlib.Core.List.{List, [], _∷_, _++_, append-assoc, append-nil}
@@ -8,12 +8,12 @@ use native.Mathlib.Omega.{arith}
 use native.Mathlib.Numerals.{add-one}
 use borrow.Author.Tests.{eq-eqb, ne-eqb, ltb-true, ltb-false}
 use lib.Dec.{ltb}
-use lib.ListN.{length, getD, drop, length-append, length-replicate, drop-of-length-le}
+use lib.ListN.{length, drop, length-append, drop-of-length-le}
 use lib.Seq.{drop-cons, drop-length, getD-take, length-take-le}
-use Rattle.octets.specs.Octets.{run, wordBytes, zeros, splice, setWord}
+use Rattle.octets.specs.Octets.{run, splice}
 use Rattle.octets.specs.Below.{sumBelow}
 use Rattle.octets.specs.SpliceLaws.{length-run, run-run, splice-append, splice-eq}
-use Rattle.octets.specs.BelowLaws.{never-both, sumBelow-turn, sumBelow-at, sumBelow-same, length-upto}
+use Rattle.octets.specs.BelowLaws.{never-both, sumBelow-turn, sumBelow-le, sumBelow-at, sumBelow-same, length-upto}
 use Rattle.schema.specs.declared.Path.{Path}
 use Rattle.schema.specs.declared.Entry.{Entry}
 use Rattle.schema.specs.Fields.{mastersOf, setsOf, kindOf, countOf}
@@ -23,9 +23,8 @@ use Rattle.schema.specs.Place.{placeOf}
 use Rattle.schema.specs.RuleFacts.{head-facts, set-facts, master-facts, variable-facts}
 use Rattle.schema.specs.LayoutLaws.{body-variable, body-master}
 use Rattle.schema.specs.GuaranteeLaws.{setFrom, set-is, path-is}
-use Rattle.records.specs.declared.Link.{Link}
 use Rattle.records.specs.Records.{bodyOf, masterKey}
-use Rattle.records.specs.Areas.{isMaster, areaKeyPlace, areaKeys, areaLength, areaMasterKey, areaKeyOn, areaBody, keysOn, areaOf, liveHead, noLink, newMaster, newPaths, newVariable}
+use Rattle.records.specs.Areas.{isMaster, areaKeyPlace, areaKeys, areaLength, keysOn, areaOf}
 
 -- ---- what a set's layout says of its fields
 
@@ -43,6 +42,13 @@ pub record Fields (e : Entry) : Type 0 where
   pub behind : isMaster e ≡ false → pathPlace e (e .count) ≡ e .body
 
 -- ---- places
+
+-- how many bytes of an area are keys, by the kind of its set
+pub master-keys : (e : Entry) → isMaster e ≡ true → areaKeys e ≡ e .key
+master-keys e m = rw m refl
+
+pub variable-keys : (e : Entry) → isMaster e ≡ false → areaKeys e ≡ areaKeyPlace e (e .count)
+variable-keys e v = rw v refl
 
 module _ (e : Entry) where
   pub area-key-first : areaKeyPlace e 0 ≡ 0
@@ -68,6 +74,10 @@ module _ (e : Entry) where
   pub path-place-inside : (j n : ℕ) → j < n → pathPlace e j + (pathOf e j .len + 8) ≤ pathPlace e n
   unfolding pathPlace
   path-place-inside j n h = omega (arith, sumBelow-at (λ k. pathOf e k .len + 8) j n h)
+
+  pub path-place-le : (j n : ℕ) → j ≤ n → pathPlace e j ≤ pathPlace e n
+  unfolding pathPlace
+  path-place-le j n h = omega (arith, sumBelow-le (λ k. pathOf e k .len + 8) j n h)
 
   keys-below : (n : ℕ) → sumBelow (λ k. pathOf e k .len) n ≤ sumBelow (λ k. pathOf e k .len + 8) n
   unfolding sumBelow
@@ -197,98 +207,6 @@ module _ (b : List ℕ) (e : Entry) (r : ℕ) (f : Fields e) (h : placeOf e r + 
         splice-join area 0 (masterKey b e r) (e .key) (bodyOf b e r) n,
         ← master-form b e r m,
       ) whole-area
-
--- ---- a new record made of an area: its fields, stored one behind the other, are one splice, and they are as long as the record
-
-pub master-keys : (e : Entry) → isMaster e ≡ true → areaKeys e ≡ e .key
-master-keys e m = rw m refl
-
-master-body : (e : Entry) (area : List ℕ) → isMaster e ≡ true → run area (e .key) (e .room) ≡ areaBody e area
-master-body e area m = rw m refl
-
-pub variable-keys : (e : Entry) → isMaster e ≡ false → areaKeys e ≡ areaKeyPlace e (e .count)
-variable-keys e v = rw v refl
-
-module _ (e : Entry) (root : Link) (area : List ℕ) (m : isMaster e ≡ true) (i : 12 + e .key ≤ e .body) (l : length area ≡ areaLength e) where
-  key-length : length (areaMasterKey e area) ≡ e .key
-  key-length = length-run area 0 (e .key) (omega (arith, master-keys e m))
-
-  pub length-newMaster : length (newMaster e root area) ≡ e .body + e .room
-  unfolding newMaster
-  length-newMaster =
-      rw (length-append (areaMasterKey e area), length-append (zeros (e .body - (12 + e .key))), length-replicate, key-length, length-run area (areaKeys e) (e .room) (omega arith))
-      (omega arith)
-
-  pub master-made : (xs : List ℕ)
-      → splice (splice (splice (setWord (setWord (setWord xs 0 16777216) 4 (root .next)) 8 (root .prior)) 12 (run area 0 (e .key))) (12 + e .key) (zeros (e .body - (12 + e .key)))) (e .body) (run area (e .key) (e .room))
-      ≡ splice xs 0 (newMaster e root area)
-  unfolding newMaster setWord
-  master-made xs =
-      let d = areaBody e area in
-      let z = zeros (e .body - (12 + e .key)) in
-      let k = areaMasterKey e area in
-      let p = wordBytes (root .prior) in
-      let n = wordBytes (root .next) in
-      let x₁ = splice xs 0 liveHead in
-      let x₂ = splice x₁ 4 n in
-      let x₃ = splice x₂ 8 p in
-      let x₄ = splice x₃ 12 k in
-      let f : 12 + e .key + length z ≡ e .body = rw length-replicate (omega arith) in
-      let g : 12 + length k ≡ 12 + e .key = omega (arith, key-length) in
-      ap (splice (splice x₄ (12 + e .key) z) (e .body)) (master-body e area m)
-      ∙ splice-join x₄ (12 + e .key) z (e .body) d f
-      ∙ splice-join x₃ 12 k (12 + e .key) (z ++ d) g
-      ∙ splice-join x₂ 8 p 12 (k ++ (z ++ d)) refl
-      ∙ splice-join x₁ 4 n 8 (p ++ (k ++ (z ++ d))) refl
-      ∙ splice-join xs 0 liveHead 4 (n ++ (p ++ (k ++ (z ++ d)))) refl
-
--- the key of a path, then its two words
-pub path-made : (xs : List ℕ) (a : ℕ) (k : List ℕ) (n p q : ℕ) → length k ≡ n
-    → setWord (setWord (splice xs a k) (a + n) p) (a + n + 4) q ≡ splice xs a (k ++ (wordBytes p ++ wordBytes q))
-unfolding setWord
-path-made xs a k n p q h =
-    splice-join (splice xs a k) (a + n) (wordBytes p) (a + n + 4) (wordBytes q) refl
-    ∙ splice-join xs a k (a + n) (wordBytes p ++ wordBytes q) (ap (λ (i : ℕ). a + i) h)
-
-module _ (e : Entry) (links : List Link) (area : List ℕ) (f : Fields e) (v : isMaster e ≡ false) (l : length area ≡ areaLength e) where
-  path-key-length : (j : ℕ) → j < e .count → length (areaKeyOn e area j) ≡ pathOf e j .len
-  path-key-length j h = length-run area (areaKeyPlace e j) (pathOf e j .len) (omega (arith, area-key-inside e j (e .count) h, variable-keys e v))
-
-  -- a turn: path j's fields are stored, and what is left begins behind them
-  pub paths-turn : (xs : List ℕ) (a n m j : ℕ) → n ≡ m + 1 → j < e .count
-      → splice (splice xs a (areaKeyOn e area j ++ (wordBytes (getD links j noLink .prior) ++ wordBytes (getD links j noLink .next)))) (a + (pathOf e j .len + 8)) (newPaths e links area m (j + 1))
-      ≡ splice xs a (newPaths e links area n j)
-  unfolding newPaths
-  paths-turn xs a n m j q h =
-      let k = areaKeyOn e area j in
-      let w = wordBytes (getD links j noLink .prior) ++ wordBytes (getD links j noLink .next) in
-      let r = newPaths e links area m (j + 1) in
-      let g : a + length (k ++ w) ≡ a + (pathOf e j .len + 8) = rw length-append (omega (arith, path-key-length j h)) in
-      rw (q, add-one m) (splice-join xs a (k ++ w) (a + (pathOf e j .len + 8)) r g ∙ (rw append-assoc refl))
-
-  pub paths-end : (xs : List ℕ) (a n j : ℕ) → n ≡ 0 → splice xs a (newPaths e links area n j) ≡ xs
-  unfolding newPaths splice
-  paths-end xs a n j q = rw q refl
-
-  paths-long : (n j : ℕ) → j + n ≡ e .count → pathPlace e j + length (newPaths e links area n j) ≡ e .body
-  unfolding newPaths
-  paths-long zero j h = let q : j ≡ e .count = omega arith in rw q (omega (arith, f .behind v))
-  paths-long (suc n) j h =
-      rw (length-append (areaKeyOn e area j), path-key-length j (omega arith)) (omega (arith, paths-long n (j + 1) (omega arith), path-place-turn e j))
-
-  pub length-newVariable : length (newVariable e links area) ≡ e .body + e .room
-  unfolding newVariable
-  length-newVariable =
-      rw (length-append (newPaths e links area (e .count) 0), length-run area (areaKeys e) (e .room) (omega arith))
-      (omega (arith, paths-long (e .count) 0 (omega arith), path-place-first e))
-
-  pub variable-made : (xs : List ℕ)
-      → splice (splice (setWord xs 0 16777216) 4 (newPaths e links area (e .count) 0)) (e .body) (areaBody e area) ≡ splice xs 0 (newVariable e links area)
-  unfolding newVariable setWord
-  variable-made xs =
-      let ps = newPaths e links area (e .count) 0 in
-      let g : 4 + length ps ≡ e .body = omega (arith, paths-long (e .count) 0 (omega arith), path-place-first e) in
-      splice-join (splice xs 0 liveHead) 4 ps (e .body) (areaBody e area) g ∙ splice-join xs 0 liveHead 4 (ps ++ areaBody e area) refl
 
 -- ---- every set of a decoded schema
 

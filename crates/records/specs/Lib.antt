@@ -10,3 +10,4 @@ pub mod Memory
 pub mod FillerLaws
 pub mod RecordLaws
 pub mod AreaLaws
+pub mod NewLaws

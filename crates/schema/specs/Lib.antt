@@ -1,9 +1,7 @@
 pub mod Fields
 pub mod Rules
-pub mod RulesLaws
 pub mod Layout
 pub mod Decode
-pub mod DecodeLaws
 pub mod Place
 pub mod Guarantee
 pub mod PlaceLaws

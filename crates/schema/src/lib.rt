@@ -1,13 +1,8 @@
-// The schema: what it says once it is decoded, and the judgement of every rule that document 01 makes for it.
+// The schema: what it says once it is decoded, and where its sets lie.
 use terms::BlockNo;
 use terms::EntryNo;
-ghost use mathlib.Core.Path.{_≡_};
-ghost use Rattle.schema.specs.Decode.{decodedOf};
 
-mod build;
-mod fields;
 pub mod layout;
-mod rules;
 
 // A path of a variable set, with what every call on it needs.
 pub struct Path {
@@ -44,14 +39,4 @@ pub struct Schema {
 pub struct Decoded {
     pub ok: bool,
     pub schema: Schema,
-}
-
-// Decodes a schema buffer of any length: document 01's rules for the schema are judged, and what it says is given where it keeps them.
-pub fn decode(s: &[u8]) -> Decoded
-    ensures { λ r. ⌜ r ≡ decodedOf (now (s .entry)) ⌝ }
-{
-    if !rules::form(s) {
-        return build::refused();
-    }
-    build::decoded(s)
 }

@@ -141,7 +141,7 @@ otherMasterTests x c =
 
 -- ---- 14, 15 and the final 16
 
--- "master has a first or last not 0": of any path to it. Slot q of the schema is slot q % 4 of entry q / 4.
+-- "master has a first or last not 0": of any path to it, over all sets. `n` is the entry number of the master set, `r` the master.
 unfoldable pub hasPoints : Schema → List ℕ → ℕ → ℕ → Bool
 hasPoints t b n r =
     not (allBelow (λ i. allBelow (λ j.

@@ -8,7 +8,8 @@ use denote.Ref.{now}
 use borrow.Author.Needs.{needs}
 use borrow.Author.Tests.{eq-eqb}
 use Rattle.records.specs.Areas.{isMaster}
-use Rattle.records.specs.AreaLaws.{master-keys, master-made}
+use Rattle.records.specs.AreaLaws.{master-keys}
+use Rattle.records.specs.NewLaws.{master-made}
 use Rattle.records.proofs.areas.new_master.Statement.{statement}
 use Rattle.records.proofs.areas.new_master.Tie as tie
 

@@ -2,7 +2,8 @@
 use native.Mathlib.Omega.{arith}
 use denote.Ref.{now}
 use borrow.Author.Needs.{needs}
-use Rattle.records.specs.AreaLaws.{head-inside, variable-made}
+use Rattle.records.specs.AreaLaws.{head-inside}
+use Rattle.records.specs.NewLaws.{variable-made}
 use Rattle.records.proofs.areas.new_variable.Statement.{statement}
 use Rattle.records.proofs.areas.new_variable.Tie as tie
 

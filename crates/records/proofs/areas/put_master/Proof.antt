@@ -12,7 +12,7 @@ use Rattle.schema.specs.PlaceLaws.{place-inside}
 use borrow.Author.Tests.{eq-eqb}
 use mathlib.Core.Bool.{true}
 use Rattle.records.specs.Areas.{isMaster, newMaster}
-use Rattle.records.specs.AreaLaws.{length-newMaster}
+use Rattle.records.specs.NewLaws.{length-newMaster}
 use Rattle.records.proofs.areas.put_master.Statement.{statement}
 use Rattle.records.proofs.areas.put_master.Tie as tie
 

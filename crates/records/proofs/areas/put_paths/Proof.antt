@@ -10,7 +10,8 @@ use Rattle.octets.specs.Octets.{splice}
 use Rattle.schema.specs.declared.Path.{Path}
 use Rattle.schema.specs.Decode.{pathOf}
 use Rattle.records.specs.Areas.{areaKeyPlace, newPaths}
-use Rattle.records.specs.AreaLaws.{pathPlace, area-key-first, area-key-turn, area-key-inside, path-place-first, path-place-turn, path-inside, variable-keys, paths-turn, paths-end}
+use Rattle.records.specs.AreaLaws.{pathPlace, area-key-first, area-key-turn, area-key-inside, path-place-first, path-place-turn, path-inside, variable-keys}
+use Rattle.records.specs.NewLaws.{paths-turn, paths-end}
 use Rattle.records.proofs.areas.put_paths.Statement.{statement}
 use Rattle.records.proofs.areas.put_paths.Tie as tie
 

@@ -12,7 +12,7 @@ use Rattle.schema.specs.PlaceLaws.{place-inside}
 use borrow.Author.Tests.{ne-eqb}
 use mathlib.Core.Bool.{false}
 use Rattle.records.specs.Areas.{isMaster, newVariable}
-use Rattle.records.specs.AreaLaws.{length-newVariable}
+use Rattle.records.specs.NewLaws.{length-newVariable}
 use Rattle.records.proofs.areas.put_variable.Statement.{statement}
 use Rattle.records.proofs.areas.put_variable.Tie as tie
 

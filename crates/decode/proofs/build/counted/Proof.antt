@@ -1,0 +1,59 @@
+-- `schema::build::counted` meets its contract. The invariant: the paths in the slots passed are counted.
+use Prim.Native.Nat.{_*_, _-_, _≤_}
+use mathlib.Core.Path.{_≡_}
+use native.Mathlib.Omega.{arith}
+use denote.Ref.{now}
+use Rattle.decode.specs.DecodeLaws.{Counted, counted-none}
+use borrow.Author.Needs.{needs}
+use Rattle.decode.proofs.build.counted.Tie as tie
+use Rattle.decode.proofs.build.counted.Statement.{statement}
+
+abbrev Inv-loop : tie.InvT-loop
+Inv-loop s slots l₀ q₀ l q = (q ≤ slots) × Counted s q l
+
+abbrev μ-loop : tie.MeasureT-loop
+μ-loop s slots l₀ q₀ l q = slots - q
+
+sets-requires : tie.Need-sets-requires Inv-loop μ-loop
+sets-requires c κs = search needs
+
+mul-slots : tie.Need-mul-slots Inv-loop μ-loop
+mul-slots c = search needs
+
+loop-holds : tie.Need-loop-holds Inv-loop μ-loop
+loop-holds c = (search needs, counted-none (now (c .before .before .args .s)))
+
+step-requires : tie.Need-step-requires Inv-loop μ-loop
+step-requires c κs =
+    let l = c .before in
+    (l .before .before .before .pre, (rw (l .before .sets .ensures) at (c .loop-test .taken), l .loop .inv .1))
+
+add-q : tie.Need-add-q Inv-loop μ-loop
+add-q c = search needs
+
+loop-less : tie.Need-loop-less Inv-loop μ-loop
+loop-less c = search needs
+
+loop-again : tie.Need-loop-again Inv-loop μ-loop
+loop-again c = (search needs, c .step .ensures)
+
+returns : tie.Need-returns Inv-loop μ-loop
+returns c =
+    let l = c .before in
+    let e : l .loop .q ≡ 4 * l .before .sets .result = omega arith in
+    rw (e, l .before .sets .ensures) at (l .loop .inv .1)
+
+pub counted-spec : {M : Type 1} → statement M
+counted-spec =
+    tie.close
+    (tie.spec
+    Inv-loop
+    μ-loop
+    sets-requires
+    mul-slots
+    loop-holds
+    step-requires
+    add-q
+    loop-less
+    loop-again
+    returns)

@@ -1,0 +1,2 @@
+pub mod RulesLaws
+pub mod DecodeLaws
