@@ -1,2 +1,1 @@
-pub mod RulesLaws
 pub mod DecodeLaws

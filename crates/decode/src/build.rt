@@ -1,6 +1,6 @@
 // What a schema that keeps the form's rules says, with the layout of its sets: document 01, "Blocks and the schema". One pass over the
 // slots numbers the paths to each master, and one over the entries lays the sets out, entry by entry.
-use super::fields;
+use rules::fields;
 use schema::Decoded;
 use schema::Entry;
 use schema::Path;
@@ -14,7 +14,7 @@ ghost use lib.ListN.{length};
 ghost use Rattle.octets.specs.Below.{upto};
 ghost use Rattle.schema.specs.Fields.{setsOf, countOf, masterOf};
 ghost use Rattle.schema.specs.Rules.{masterOfSlot, formRule};
-ghost use Rattle.decode.specs.RulesLaws.{Formed};
+ghost use Rattle.rules.specs.RulesLaws.{Formed};
 ghost use Rattle.schema.specs.Layout.{linksBefore, pathKeyLength, keyPlace, bodyPlace, firstBlock};
 ghost use Rattle.schema.specs.Decode.{emptyPath, emptyEntry, pathFrom, decodedOf};
 ghost use Rattle.decode.specs.DecodeLaws.{Counted, PathAt, fullPath, fullEntry, refusal};

@@ -4,8 +4,6 @@ ghost use mathlib.Core.Path.{_≡_};
 ghost use Rattle.schema.specs.Decode.{decodedOf};
 
 mod build;
-mod fields;
-mod rules;
 
 // Decodes a schema buffer of any length: document 01's rules for the schema are judged, and what it says is given where it keeps them.
 pub fn decode(s: &[u8]) -> Decoded

@@ -9,5 +9,3 @@ pub mod FieldsByAddress
 pub mod Memory
 pub mod FillerLaws
 pub mod RecordLaws
-pub mod AreaLaws
-pub mod NewLaws

@@ -1,6 +1,5 @@
-// The fields of a record, and how an area becomes a record and a record an area.
+// The fields of a record.
 
-pub mod areas;
 pub mod fields;
 
 // A record's neighbours on one path, as its two link words: 0 is none.

@@ -1,0 +1,53 @@
+-- `records::areas::new_variable` meets its contract: the fields, stored one behind the other, are one splice. Assumes nothing.
+use native.Mathlib.Omega.{arith}
+use denote.Ref.{now}
+use borrow.Author.Needs.{needs}
+use Rattle.areas.specs.AreaLaws.{head-inside}
+use Rattle.areas.specs.NewLaws.{variable-made}
+use Rattle.areas.proofs.new_variable.Statement.{statement}
+use Rattle.areas.proofs.new_variable.Tie as tie
+
+put-word-requires : tie.Need-put-word-requires
+put-word-requires c κs = let s = c .before .before .before in omega (arith, head-inside (s .args .e) (s .pre .1 .1 .0) (s .pre .1 .1 .1))
+
+put-paths-requires : tie.Need-put-paths-requires
+put-paths-requires c κs = search needs
+
+area-keys-requires : tie.Need-area-keys-requires
+area-keys-requires c κs = search needs
+
+cast-copy-part : tie.Need-cast-copy-part
+cast-copy-part c = search needs
+
+cast-copy-part-2 : tie.Need-cast-copy-part-2
+cast-copy-part-2 c = search needs
+
+copy-part-requires : tie.Need-copy-part-requires
+copy-part-requires c κs = search needs
+
+same-length : tie.Need-same-length
+same-length c = search needs
+
+returns : tie.Need-returns
+returns c =
+    let d = c .before .before in
+    let k = d .before .before .before .before in
+    let p = k .before .before .before in
+    let h = p .before .before .before .before in
+    let s = h .before .before .before .before in
+    let a = s .args in
+    rw (d .copy-part .ensures, k .area-keys .ensures, p .put-paths .ensures, h .put-word .ensures)
+    (variable-made (a .e) (a .links) (now (a .area)) (s .pre .1 .1 .0) (s .pre .1 .1 .1) (s .pre .1 .0) (now (a .part)))
+
+pub new-variable-spec : {M : Type 1} → statement M
+new-variable-spec =
+    tie.close
+    (tie.spec
+    put-word-requires
+    put-paths-requires
+    area-keys-requires
+    cast-copy-part
+    cast-copy-part-2
+    copy-part-requires
+    same-length
+    returns)

@@ -1,0 +1,60 @@
+-- `records::areas::put_path` meets its contract: the key and the two words, stored one behind the other, are one splice. Assumes nothing.
+use denote.Ref.{now}
+use borrow.Author.Needs.{needs}
+use Rattle.octets.specs.Octets.{run}
+use Rattle.octets.specs.SpliceLaws.{length-run}
+use Rattle.areas.specs.NewLaws.{path-made}
+use Rattle.areas.proofs.put_path.Statement.{statement}
+use Rattle.areas.proofs.put_path.Tie as tie
+
+cast-at : tie.Need-cast-at
+cast-at c = search needs
+
+cast-len : tie.Need-cast-len
+cast-len c = search needs
+
+copy-part-requires : tie.Need-copy-part-requires
+copy-part-requires c κs = search needs
+
+add-put-word : tie.Need-add-put-word
+add-put-word c = search needs
+
+put-word-requires : tie.Need-put-word-requires
+put-word-requires c κs = search needs
+
+add-put-word-2 : tie.Need-add-put-word-2
+add-put-word-2 c = search needs
+
+add-put-word-3 : tie.Need-add-put-word-3
+add-put-word-3 c = search needs
+
+put-word-requires-2 : tie.Need-put-word-requires-2
+put-word-requires-2 c κs = search needs
+
+same-length : tie.Need-same-length
+same-length c = search needs
+
+returns : tie.Need-returns
+returns c =
+    let n = c .before .before in
+    let p = n .before .before .before .before in
+    let k = p .before .before .before .before in
+    let s = k .before .before .before .before .before .before in
+    let a = s .args in
+    rw (n .put-word2 .ensures, p .put-word .ensures, k .copy-part .ensures)
+    (path-made (now (a .part)) (a .p .at) (run (now (a .area)) (a .from) (a .p .len)) (a .p .len) (a .link .prior) (a .link .next) (length-run (now (a .area)) (a .from) (a .p .len) (s .pre .1)))
+
+pub put-path-spec : {M : Type 1} → statement M
+put-path-spec =
+    tie.close
+    (tie.spec
+    cast-at
+    cast-len
+    copy-part-requires
+    add-put-word
+    put-word-requires
+    add-put-word-2
+    add-put-word-3
+    put-word-requires-2
+    same-length
+    returns)
