@@ -1,7 +1,7 @@
 -- Document 01, "Chains" and "The final 16": one path of one variable set. `e` is the variable set, `p` the path, `x` the set of its
 -- masters, `m` the record of the master there. A master's first and last are the ends of its chain.
 use Prim.Native.Nat.{ℕ, _+_}
-use mathlib.Core.Bool.{Bool, cond, not, _&&_, _||_, xor}
+use mathlib.Core.Bool.{Bool, cond, not, _&&_, xor}
 use mathlib.Core.List.{List, [], _∷_}
 use lib.Dec.{eqb}
 use Rattle.octets.specs.Octets.{sameBytes}

@@ -1,14 +1,14 @@
 -- What the two sides of a place on a path are, as addresses: next of the record before it, or the master's first; prior of the record
 -- after it, or the master's last. So a chain is a ring through its master, node 0: next of 0 is first, prior of 0 is last.
-use Prim.Native.Nat.{ℕ, zero, suc, _+_}
-use mathlib.Core.Path.{_≡_, refl, sym, _∙_, ap}
+use Prim.Native.Nat.{ℕ, zero, suc}
+use mathlib.Core.Path.{_≡_, refl}
 use mathlib.Core.Logic.{_⊎_, inl, inr}
-use mathlib.Core.Bool.{Bool, true, false, cond, not, _&&_, and-eq-true-iff}
+use mathlib.Core.Bool.{Bool, true, false, not, _&&_, and-eq-true-iff}
 use mathlib.Core.List.{List, [], _∷_}
 use native.Mathlib.Omega.{arith}
 use lib.Dec.{eqb, eqb·suc-zero}
-use borrow.Author.Tests.{eqb-true, not-false}
-use Rattle.octets.specs.Octets.{splice, setWord, sameBytes}
+use borrow.Author.Tests.{eqb-true}
+use Rattle.octets.specs.Octets.{setWord, sameBytes}
 use Rattle.octets.specs.RunLaws.{sameBytes-eq}
 use Rattle.schema.specs.declared.Path.{Path}
 use Rattle.schema.specs.declared.Entry.{Entry}
@@ -16,8 +16,8 @@ use Rattle.schema.specs.declared.Schema.{Schema}
 use Rattle.schema.specs.Decode.{entryOf, pathOf}
 use Rattle.schema.specs.Place.{InSet, inSet}
 use Rattle.records.specs.Records.{isLive, keyOn}
-use Rattle.records.specs.Address.{Field, Address, next, prior, first, last, putWord}
-use Rattle.plans.specs.Plan.{Store, storeAll}
+use Rattle.records.specs.Address.{Address, next, prior, first, last, putWord}
+use Rattle.plans.specs.Plan.{storeAll}
 use Rattle.masters.specs.FindLaws.{inSet-true}
 use Rattle.chains.specs.Chains.{isPointOf, badNeighbour, priorSide, nextSide}
 

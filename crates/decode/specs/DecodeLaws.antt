@@ -15,7 +15,7 @@ use Rattle.octets.specs.Below.{upto, countBelow, allBelow, sumBelow}
 use Rattle.octets.specs.BelowLaws.{allBelow-turn, allBelow-fails, countBelow-hit, countBelow-miss, countBelow-le, never-both, sumBelow-turn, length-upto, getD-upto}
 use Rattle.schema.specs.Fields.{mastersOf, variablesOf, setsOf, entryAt, kindOf, countOf, roomOf, recordsOf, keyLengthOf, slotAt, masterOf}
 use Rattle.schema.specs.Rules.{isPathSlot, masterOfSlot, formRule}
-use Rattle.rules.specs.RulesLaws.{Formed}
+use Rattle.schema.specs.FormFacts.{Formed}
 use Rattle.schema.specs.Layout.{linksBefore, linksTo, pathKeyLength, keyPlace, linkPlace, bodyPlace, lengthOf, perBlock, blocksOf, firstBlock, totalBlocks, sizeRule, keepsRules}
 use Rattle.schema.specs.RuleFacts.{slot-entry}
 use Rattle.schema.specs.LayoutLaws.{key-above, body-master, body-variable, per-some}

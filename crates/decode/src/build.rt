@@ -14,7 +14,7 @@ ghost use lib.ListN.{length};
 ghost use Rattle.octets.specs.Below.{upto};
 ghost use Rattle.schema.specs.Fields.{setsOf, countOf, masterOf};
 ghost use Rattle.schema.specs.Rules.{masterOfSlot, formRule};
-ghost use Rattle.rules.specs.RulesLaws.{Formed};
+ghost use Rattle.schema.specs.FormFacts.{Formed};
 ghost use Rattle.schema.specs.Layout.{linksBefore, pathKeyLength, keyPlace, bodyPlace, firstBlock};
 ghost use Rattle.schema.specs.Decode.{emptyPath, emptyEntry, pathFrom, decodedOf};
 ghost use Rattle.decode.specs.DecodeLaws.{Counted, PathAt, fullPath, fullEntry, refusal};

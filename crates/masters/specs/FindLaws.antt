@@ -1,14 +1,13 @@
 -- What the search and the scan give: a record that is found is a live record of the set with that key, and the lowest free record is free.
-use Prim.Native.Nat.{ℕ, zero, suc, _+_, _≤_, _<_}
-use mathlib.Core.Path.{_≡_, refl, sym, _∙_, ap}
+use Prim.Native.Nat.{ℕ, zero, suc, _≤_, _<_}
+use mathlib.Core.Path.{_≡_, refl}
 use mathlib.Core.Bool.{Bool, true, false, cond, not, _&&_, and-eq-true-iff}
 use mathlib.Core.List.{List}
 use mathlib.Core.Logic.{_⊎_, inl, inr, ⊎-elim}
 use native.Mathlib.Omega.{arith}
-use lib.Dec.{eqb, leb, ltb}
+use lib.Dec.{eqb, leb}
 use borrow.Author.Tests.{leb-true, ltb-false, not-true, not-false}
 use Rattle.octets.specs.Octets.{sameBytes}
-use Rattle.octets.specs.Below.{lowestFrom}
 use Rattle.octets.specs.BelowLaws.{lowestFrom-ge, lowestFrom-at, lowestFrom-below}
 use Rattle.octets.specs.RunLaws.{sameBytes-eq}
 use Rattle.terms.specs.declared.RecordNo.{RecordNo}

@@ -7,7 +7,6 @@ use lib.Dec.{eqb}
 use Rattle.octets.specs.Octets.{setWord}
 use Rattle.schema.specs.declared.Entry.{Entry}
 use Rattle.schema.specs.Place.{inSet, recordOf}
-use Rattle.records.specs.declared.Link.{Link}
 use Rattle.records.specs.Records.{isLive, rootNext, rootPrior}
 use Rattle.records.specs.Areas.{newMaster}
 use Rattle.plans.specs.Plan.{Store, storeWord, storeRecord, wipeRecord}

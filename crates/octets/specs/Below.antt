@@ -1,6 +1,6 @@
 -- Tests, counts, sums and lists over the numbers 0, 1, .. below a bound: how the definitions say "for each" and "the lowest".
 use Prim.Native.Nat.{ℕ, zero, suc, _+_}
-use mathlib.Core.Bool.{Bool, true, false, cond, _&&_}
+use mathlib.Core.Bool.{Bool, true, cond, _&&_}
 use mathlib.Core.List.{List, [], _∷_, _++_}
 
 -- f holds of every number below n

@@ -1,7 +1,7 @@
 -- Document 01, "Chains": "All reading and testing precedes storing." What a call stores is a list of runs of bytes, computed from the
 -- data base as it came; a store goes into one record, so into one block.
 use Prim.Native.Nat.{ℕ, zero, suc, _+_, _*_, _/_}
-use mathlib.Core.Bool.{Bool, true, false, _&&_}
+use mathlib.Core.Bool.{Bool, true, _&&_}
 use mathlib.Core.List.{List, [], _∷_}
 use Rattle.octets.specs.Octets.{splice, wordBytes, zeros}
 use Rattle.blocks.specs.Blocks.{isSealed, seal}

@@ -1,11 +1,11 @@
 -- The ways through the C entries, in the words of what the code read.
-use Prim.Native.Nat.{ℕ, _+_, _*_, _-_, _/_, _%_, _≤_, _<_}
+use Prim.Native.Nat.{ℕ, _-_, _%_, _≤_, _<_}
 use mathlib.Core.Path.{_≡_, refl, sym, _∙_, ap}
-use mathlib.Core.Bool.{Bool, true, false, cond, _&&_, and-false}
+use mathlib.Core.Bool.{true, false, and-false}
 use mathlib.Core.List.{List}
 use native.Mathlib.Omega.{arith}
 use native.Mathlib.Nat.{mod-eq-of-lt}
-use lib.Dec.{eqb, leb, ltb}
+use lib.Dec.{leb}
 use lib.ListN.{length}
 use borrow.Author.Tests.{lt-ltb, le-ltb, le-leb, lt-leb, eq-eqb, ne-eqb}
 use Rattle.octets.specs.Octets.{wordAt, setWord}
@@ -15,7 +15,7 @@ use Rattle.schema.specs.declared.Schema.{Schema}
 use Rattle.schema.specs.declared.Decoded.{Decoded}
 use Rattle.schema.specs.Layout.{keepsRules}
 use Rattle.schema.specs.Decode.{schemaOf, entryOf, setCount, decodedOf}
-use Rattle.schema.specs.Place.{InSet, LiesIn, inSet, placeOf}
+use Rattle.schema.specs.Place.{LiesIn, placeOf}
 use Rattle.schema.specs.Guarantee.{SchemaOk}
 use Rattle.schema.specs.GuaranteeLaws.{guaranteed, lies}
 use Rattle.probes.specs.Probes.{blocksIn, nowhere, placeInSet, placeUnder, placeIn, sealedAlone, sealAlone, sealAnswer}

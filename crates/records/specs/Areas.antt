@@ -4,7 +4,7 @@ use Prim.Native.Nat.{ℕ, zero, suc, _+_, _-_}
 use mathlib.Core.Bool.{Bool, cond}
 use mathlib.Core.List.{List, [], _∷_, _++_}
 use lib.Dec.{eqb}
-use lib.ListN.{take, getD}
+use lib.ListN.{getD}
 use Rattle.octets.specs.Octets.{run, wordBytes, zeros}
 use Rattle.octets.specs.Below.{sumBelow}
 use Rattle.schema.specs.declared.Path.{Path}

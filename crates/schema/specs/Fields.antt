@@ -1,6 +1,6 @@
 -- Document 01, "Blocks and the schema": where the schema's 512 bytes say what. `s` is the schema buffer, `i` an entry's number,
 -- `j` a slot's number within its entry. Reading only: which values are allowed is in Rules.
-use Prim.Native.Nat.{ℕ, _+_, _*_, _/_, _%_}
+use Prim.Native.Nat.{ℕ, _+_, _*_}
 use mathlib.Core.List.{List}
 use mathlib.Core.Bool.{Bool}
 use lib.Dec.{ltb}

@@ -2,8 +2,6 @@
 -- schema that keeps the rules. It says nothing that document 01 does not: it is Rules and Layout, in the words of the decoded value.
 use Prim.Native.Nat.{ℕ, _+_, _*_, _-_, _/_, _≤_, _<_}
 use mathlib.Core.Path.{_≡_}
-use mathlib.Core.Logic.{_⊎_}
-use mathlib.Core.List.{List}
 use lib.ListN.{length}
 use Rattle.octets.specs.Octets.{Apart}
 use Rattle.schema.specs.declared.Path.{Path}

@@ -5,6 +5,7 @@ pub mod Decode
 pub mod Place
 pub mod Guarantee
 pub mod PlaceLaws
+pub mod FormFacts
 pub mod RuleFacts
 pub mod LayoutLaws
 pub mod GuaranteeLaws

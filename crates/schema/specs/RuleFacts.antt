@@ -1,7 +1,6 @@
 -- What a schema that keeps the rules says, as facts: the Boolean tests of Rules and Layout, read one by one.
 use Prim.Native.Nat.{ℕ, _+_, _*_, _/_, _%_, _≤_, _<_}
 use mathlib.Core.Path.{_≡_, refl, sym, _∙_}
-use mathlib.Core.Logic.{_⊎_, inl, inr}
 use mathlib.Core.Bool.{Bool, true, false, true≢false, false≢true, cond, _&&_, _||_, and-eq-true-iff}
 use mathlib.Core.List.{List}
 use native.Mathlib.Omega.{arith}
@@ -11,9 +10,9 @@ use lib.ListN.{length}
 use Rattle.octets.specs.Octets.{byteAt, sameBytes}
 use Rattle.octets.specs.BelowLaws.{allBelow-at}
 use Rattle.schema.specs.Fields.{mastersOf, variablesOf, setsOf, entryAt, nameOf, kindOf, countOf, recordsOf, keyLengthOf, lettersOf, masterOf}
-use Rattle.schema.specs.Rules.{isCapital, isCapitalOrDigit, blockRule, headRule, nameRule, masterRule, variableRule, countRule, pathRule, slotRule, setRule, entryRule, namesRule, clash, lettersRule, formRule}
+use Rattle.schema.specs.Rules.{isCapital, isCapitalOrDigit, nameRule, masterRule, variableRule, setRule, entryRule, namesRule, clash, lettersRule, formRule}
 use Rattle.schema.specs.Layout.{lengthOf, totalBlocks, sizeRule, keepsRules}
-use Rattle.schema.specs.PlaceLaws.{order?}
+use Rattle.schema.specs.FormFacts.{Formed, formed, entry-set}
 
 -- ---- the facts, part by part
 
@@ -84,9 +83,11 @@ module _ (s : List ℕ) (kept : keepsRules s ≡ true) where
   unfolding keepsRules
   form = (simp and-eq-true-iff at kept) .0
 
+  facts : Formed s
+  facts = formed s form
+
   pub head-facts : HeadFacts s
-  unfolding formRule blockRule headRule
-  head-facts = omega (arith, tests, simp and-eq-true-iff at form)
+  head-facts = omega (arith, facts .long, facts .head)
 
   pub total-blocks : totalBlocks s ≤ 4096
   unfolding keepsRules sizeRule
@@ -94,9 +95,8 @@ module _ (s : List ℕ) (kept : keepsRules s ≡ true) where
 
   -- a used entry keeps the rule for entries
   a-set : (i : ℕ) → i < setsOf s → setRule s i ≡ true
-  unfolding formRule entryRule
-  a-set i l =
-      of-cond _ _ _ (lt-ltb i (setsOf s) l) (allBelow-at (entryRule s) 8 i ((simp and-eq-true-iff at form) .0 .0 .0 .1) (omega (arith, head-facts)))
+  unfolding formRule
+  a-set i l = entry-set s i l (allBelow-at (entryRule s) 8 i ((simp and-eq-true-iff at form) .0 .0 .0 .1) (omega (arith, head-facts)))
 
   pub name-facts : (i : ℕ) → i < setsOf s → NameFacts s i
   unfolding setRule nameRule
@@ -114,26 +114,16 @@ module _ (s : List ℕ) (kept : keepsRules s ≡ true) where
       let h = of-cond-not _ _ _ (le-ltb i (mastersOf s) m) ((simp and-eq-true-iff at (a-set i l)) .0 .0 .0 .1) in
       omega (arith, tests, simp and-eq-true-iff at h)
 
-  few-paths : (i : ℕ) → i < setsOf s → countOf s i ≤ 4
-  few-paths i l = go (order? i (mastersOf s))
-    where
-      go : (i < mastersOf s) ⊎ (i ≡ mastersOf s) ⊎ (mastersOf s < i) → countOf s i ≤ 4
-      go (inl k) = omega (arith, master-facts i k)
-      go (inr (inl k)) = omega (arith, variable-facts i (omega arith) l)
-      go (inr (inr k)) = omega (arith, variable-facts i (omega arith) l)
-
   pub set-facts : (i : ℕ) → i < setsOf s → SetFacts s i
-  unfolding keepsRules sizeRule setRule countRule
+  unfolding keepsRules sizeRule
   set-facts i l =
       let fits = allBelow-at _ (setsOf s) i ((simp and-eq-true-iff at kept) .1 .0) l in
-      omega (arith, tests, fits, few-paths i l, simp and-eq-true-iff at (a-set i l))
+      let f = facts .set i l in
+      record { some = f .some; many = f .many; few = f .few; fits = leb-true _ _ fits }
 
   -- a path leads to a master, and only variable sets have paths
   pub path-facts : (i j : ℕ) → i < setsOf s → j < countOf s i → masterOf s i j < mastersOf s
-  unfolding setRule slotRule pathRule
-  path-facts i j l c =
-      let h = allBelow-at (slotRule s i) 4 j ((simp and-eq-true-iff at (a-set i l)) .1) (omega (arith, few-paths i l)) in
-      omega (arith, tests, simp and-eq-true-iff at (of-cond _ _ _ (lt-ltb j (countOf s i) c) h))
+  path-facts i j l c = facts .set i l .leads j c
 
   pub names-differ : (i k : ℕ) → i < k → k < setsOf s → sameBytes (nameOf s i) (nameOf s k) ≡ false
   unfolding formRule namesRule
@@ -150,7 +140,7 @@ module _ (s : List ℕ) (kept : keepsRules s ≡ true) where
   pub letters-differ : (i j k : ℕ) → j < k → i < setsOf s → k < countOf s i → sameBytes (lettersOf s i j) (lettersOf s i k) ≡ true → ⊥
   unfolding clash
   letters-differ i j k l m c e =
-      let few = few-paths i m in
+      let few = facts .set i m .few in
       let dj = slot-entry i j (omega arith) in
       let dk = slot-entry i k (omega arith) in
       let both : clash s (4 * i + j) (4 * i + k) ≡ true =

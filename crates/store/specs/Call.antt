@@ -1,6 +1,6 @@
 -- Document 01, "The calls we buy": what a call is given and what it returns, and groups of operations.
 use Prim.Native.Nat.{ℕ}
-use mathlib.Core.Bool.{Bool, true, false, _||_}
+use mathlib.Core.Bool.{Bool, false, _||_}
 use mathlib.Core.List.{List, [], _∷_}
 use lib.Dec.{eqb}
 use Rattle.terms.specs.declared.Status.{Status}

@@ -1,24 +1,23 @@
 -- Going down the ladder: tests that pass are left behind, path by path too. And what FORMT answers.
 use Prim.Native.Nat.{ℕ, zero, suc, _+_, _*_, _<_}
-use mathlib.Core.Path.{_≡_, refl, sym, _∙_, ap}
+use mathlib.Core.Path.{_≡_, refl, _∙_}
 use mathlib.Core.Logic.{_⊎_, inl, inr}
 use mathlib.Core.Bool.{Bool, true, false, cond, not, _&&_}
 use lib.Dec.{eqb}
 use lib.ListN.{length}
 use Rattle.schema.specs.Layout.{keepsRules}
-use mathlib.Core.List.{List, [], _∷_, _++_, append-assoc}
+use mathlib.Core.List.{List, [], _∷_, _++_}
 use native.Mathlib.Omega.{arith}
 use Rattle.terms.specs.declared.Status.{Status}
 use Rattle.terms.specs.declared.Status.the-variants.{Done, Schm, Size, Func, Mrnf}
-use Rattle.terms.specs.declared.Operation.{Operation}
 use Rattle.terms.specs.declared.Operation.the-variants.{Formt, Unknown}
 use Rattle.terms.specs.Operation.{operationOf}
 use Rattle.plans.specs.Plan.{blocksSealed}
-use Rattle.store.specs.Call.{Call, Outcome, oneOf, adds}
+use Rattle.store.specs.Call.{Call, oneOf, adds}
 use Rattle.store.specs.Scene.{Scene, sceneOf, sceneUnder}
 use Rattle.store.specs.Reply.{storesOf}
 use Rattle.records.specs.Areas.{areaKeyOn}
-use Rattle.store.specs.Ladder.{Test, refusal, generalTests, parameterTests, foundTests, masterTests, testsBelow, otherMasterTests, finalTests, ladder}
+use Rattle.store.specs.Ladder.{Test, refusal, parameterTests, foundTests, masterTests, testsBelow, otherMasterTests, finalTests, ladder}
 use Rattle.store.specs.Outcome.{outcome}
 use Rattle.store.specs.Theorems.{status-of-ladder}
 

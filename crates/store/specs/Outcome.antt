@@ -1,6 +1,5 @@
 -- The outcome of a call: status, reference, area and data base, for every call whatever its parameters. This is what the contract of
 -- `call` cites.
-use Prim.Native.Nat.{ℕ}
 use mathlib.Core.Path.{_≡_}
 use mathlib.Core.Bool.{cond}
 use lib.Dec.{eqb}

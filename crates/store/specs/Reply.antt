@@ -1,6 +1,6 @@
 -- What a call that passes every test answers and stores: document 01, "Chains". `x` is the scene, `c` the call.
 use Prim.Native.Nat.{ℕ, _+_, _-_}
-use mathlib.Core.Bool.{Bool, cond, not}
+use mathlib.Core.Bool.{cond}
 use mathlib.Core.List.{List, [], _∷_}
 use lib.Dec.{eqb, ltb}
 use lib.ListN.{getD}
@@ -16,7 +16,7 @@ use Rattle.plans.specs.Plan.{Store, storeRun, committed, formatted}
 use Rattle.masters.specs.Find.{homeIn, recordFound, lowestFree}
 use Rattle.masters.specs.Root.{addMasterStores, delMasterStores}
 use Rattle.chains.specs.Points.{Spot, last, after, before, addStores, delStores}
-use Rattle.store.specs.Call.{Call, oneOf, reads}
+use Rattle.store.specs.Call.{Call, oneOf}
 use Rattle.store.specs.Scene.{Scene}
 
 -- "LKxx is its four characters": that of the named path

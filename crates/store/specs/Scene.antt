@@ -1,10 +1,9 @@
 -- What a call speaks of: the schema, the set, the path and the master that its parameters name. Found before anything is tested: where a
 -- name leads nowhere the scene holds what stands past a list's end, and a test of the ladder refuses the call.
 use Prim.Native.Nat.{ℕ, _+_}
-use mathlib.Core.Bool.{Bool, cond}
+use mathlib.Core.Bool.{cond}
 use mathlib.Core.List.{List, _++_}
 use lib.Dec.{eqb}
-use lib.ListN.{length}
 use Rattle.octets.specs.Octets.{wordAt, wordBytes, sameBytes}
 use Rattle.octets.specs.Below.{lowest}
 use Rattle.octets.specs.Text.{text}
@@ -15,7 +14,7 @@ use Rattle.schema.specs.declared.Entry.{Entry}
 use Rattle.schema.specs.declared.Schema.{Schema}
 use Rattle.schema.specs.Decode.{entryOf, pathOf, setCount, schemaOf}
 use Rattle.masters.specs.declared.Found.{Found}
-use Rattle.masters.specs.Find.{find, homeIn}
+use Rattle.masters.specs.Find.{find}
 use Rattle.store.specs.Call.{Call, oneOf, variableCalls}
 
 pub record Scene : Type 0 where

@@ -10,7 +10,7 @@ use Rattle.terms.specs.declared.Status.{Status}
 use Rattle.terms.specs.declared.Status.the-variants.{Done}
 use Rattle.terms.specs.Status.{statusNumber}
 use Rattle.store.specs.Call.{Call, Outcome}
-use Rattle.store.specs.Scene.{Scene, sceneOf}
+use Rattle.store.specs.Scene.{sceneOf}
 use Rattle.store.specs.Ladder.{ladder, refusal}
 use Rattle.store.specs.Outcome.{refused, done, outcomeIn, outcome, IsOutcome}
 

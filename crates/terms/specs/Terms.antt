@@ -1,9 +1,8 @@
 -- Keys and references.
 use Prim.Native.Nat.{ℕ, _+_, _*_, _%_}
-use mathlib.Core.List.{List, [], _∷_, _++_}
+use mathlib.Core.List.{List}
 use lib.ListN.{take}
-use Rattle.octets.specs.Octets.{wordAt, word4, wordSum}
-use Rattle.octets.specs.Text.{text}
+use Rattle.octets.specs.Octets.{wordSum}
 use Rattle.terms.specs.declared.Key.{Key}
 
 -- the bytes of a key: the first `len` of its array

@@ -1,6 +1,6 @@
 -- `schema::build::decoded` meets its contract: the form's rules give what the callees require.
 use denote.Ref.{now}
-use Rattle.rules.specs.RulesLaws.{formed}
+use Rattle.schema.specs.FormFacts.{formed}
 use borrow.Author.Needs.{needs}
 use Rattle.decode.proofs.build.decoded.Tie as tie
 use Rattle.decode.proofs.build.decoded.Statement.{statement}
