@@ -79,7 +79,7 @@ bytes-word4 a b c d p q r s =
     let h : v % 256 ≡ d = omega arith in
     rw (e, f, g, h) refl
 
-bytes-wordBytes : (v : ℕ) → Bytes (wordBytes v)
+pub bytes-wordBytes : (v : ℕ) → Bytes (wordBytes v)
 bytes-wordBytes v zero = omega arith
 bytes-wordBytes v (suc zero) = omega arith
 bytes-wordBytes v (suc (suc zero)) = omega arith

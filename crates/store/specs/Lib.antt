@@ -5,3 +5,5 @@ pub mod Reply
 pub mod Outcome
 pub mod Theorems
 pub mod LadderLaws
+pub mod OutcomeLaws
+pub mod BytesLaws
