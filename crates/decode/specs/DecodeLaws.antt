@@ -9,10 +9,10 @@ use native.Mathlib.Omega.{arith}
 use lib.Dec.{eqb, leb, ltb}
 use lib.ListN.{length, getD, set, replicate, length-set, getD-replicate}
 use lib.Seq.{getD-set-same, getD-set-other, ext-getD}
-use borrow.Author.Tests.{ltb-true, ltb-false, lt-ltb, le-ltb, le-leb, lt-leb, eqb-true, eqb-false, eq-eqb, ne-eqb, not-true, not-false}
+use borrow.Author.Tests.{ltb-true, ltb-false, lt-ltb, le-ltb, le-leb, lt-leb, eq-eqb, ne-eqb, not-true, not-false}
 use Rattle.octets.specs.Octets.{byteAt, wordAt}
 use Rattle.octets.specs.Below.{upto, countBelow, allBelow, sumBelow}
-use Rattle.octets.specs.BelowLaws.{allBelow-turn, allBelow-fails, countBelow-hit, countBelow-miss, countBelow-le, never-both, sumBelow-turn, length-upto, getD-upto}
+use Rattle.octets.specs.BelowLaws.{allBelow-turn, allBelow-fails, countBelow-hit, countBelow-miss, countBelow-le, never-both, sumBelow-turn, length-upto, getD-upto, same?}
 use Rattle.schema.specs.Fields.{mastersOf, variablesOf, setsOf, entryAt, kindOf, countOf, roomOf, recordsOf, keyLengthOf, slotAt, masterOf}
 use Rattle.schema.specs.Rules.{isPathSlot, masterOfSlot, formRule}
 use Rattle.schema.specs.FormFacts.{Formed}
@@ -89,10 +89,6 @@ counted-none s =
 last-or-below : (p q : ℕ) → p < q + 1 → (p ≡ q) ⊎ (p < q)
 last-or-below p q h = eq-or-lt-of-le {n = p} {m = q} (omega arith)
 
-same? : (a b : ℕ) (t : Bool) → eqb a b ≡ t → (a ≡ b) ⊎ (a ≡ b → ⊥)
-same? a b true e = inl (eqb-true a b e)
-same? a b false e = inr (eqb-false a b e)
-
 -- one slot further, past one with no path
 pub counted-unused : (s : List ℕ) (q : ℕ) (l : Links) {u : Bool} → Counted s q l → u ≡ isPathSlot s q → not u ≡ true → Counted s (q + 1) l
 counted-unused s q l {u} c e n =
@@ -133,7 +129,7 @@ module _ (s : List ℕ) (q : ℕ) (l : Links) {u : Bool} {m n : ℕ} (c : Counte
         slots = length-set (l .number) q n ∙ c .slots;
         masters = length-set (l .total) m (n + 1) ∙ c .masters;
         number = λ p h. counted-number p (last-or-below p q h);
-        total = λ k h. counted-total k h (same? k m (eqb k m) refl);
+        total = λ k h. counted-total k h (same? k m);
       }
 
 -- ---- places in a record
@@ -186,7 +182,7 @@ module _ {ℓ} {A : Type ℓ} (f : ℕ → A) (e : A) where
       rw (p, q)
       (ext-getD e (set (upto (filled i) n) i (f i)) (upto (filled (i + 1)) n)
       (length-set (upto (filled i) n) i (f i) ∙ length-upto (filled i) n ∙ sym (length-upto (filled (i + 1)) n))
-      (λ k l. filled-at n i k h (rw (length-set, length-upto) at l) (same? k i (eqb k i) refl)))
+      (λ k l. filled-at n i k h (rw (length-set, length-upto) at l) (same? k i)))
 
 -- ---- what decoding makes
 

@@ -7,14 +7,24 @@ use Prim.Native.Nat.{ℕ, zero, suc, _+_, _≤_, _<_}
 use native.Mathlib.Omega.{arith}
 use native.Mathlib.Nat.{eq-or-lt-of-le}
 use native.Mathlib.Numerals.{add-one}
+use lib.Dec.{eqb}
 use lib.ListN.{length, getD, take, set, length-append, List·getD-append}
 use lib.Seq.{take-suc-set, take-all, getD-at}
+use borrow.Author.Tests.{eqb-true, eqb-false}
 use Rattle.octets.specs.Below.{allBelow, sumBelow, countBelow, lowestFrom, upto}
 use Rattle.octets.specs.RunLaws.{refuted}
 
 -- no test is both
 pub never-both : (t : Bool) → t ≡ true → t ≡ false → ⊥
 never-both t p q = let z : _≡_ {A = ℕ} 0 1 = cc in omega arith
+
+-- two numbers are the same, or they are not
+pub same? : (m n : ℕ) → (m ≡ n) ⊎ (m ≡ n → ⊥)
+same? m n = by (eqb m n) refl
+  where
+    by : (t : Bool) → eqb m n ≡ t → (m ≡ n) ⊎ (m ≡ n → ⊥)
+    by true e = inl (eqb-true m n e)
+    by false e = inr (eqb-false m n e)
 
 -- the two ways to be at most n
 last? {ℓ} : {P : Type ℓ} {i n : ℕ} → i ≤ n → (i ≡ n → P) → (i < n → P) → P
@@ -148,6 +158,12 @@ module _ (f : ℕ → Bool) where
   unfolding countBelow
   countBelow-le zero = omega arith
   countBelow-le (suc n) = cond-both (λ r. countBelow f n + r ≤ suc n) (f n) 1 0 (λ _. omega (arith, countBelow-le n)) (λ _. omega (arith, countBelow-le n))
+
+-- a number that f holds of counts from there on
+pub countBelow-at : (f : ℕ → Bool) (i n : ℕ) → i < n → f i ≡ true → countBelow f i + 1 ≤ countBelow f n
+unfolding countBelow
+countBelow-at f i zero l h = absurd (omega arith)
+countBelow-at f i (suc n) l h = last? {i = i} {n = n} (omega arith) (λ k. rw (k, rw k at h) (omega arith)) (λ k. omega (arith, countBelow-at f i n k h))
 
 pub countBelow-same : (f g : ℕ → Bool) (n : ℕ) → ((i : ℕ) → i < n → f i ≡ g i) → countBelow f n ≡ countBelow g n
 unfolding countBelow

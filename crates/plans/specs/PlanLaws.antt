@@ -2,14 +2,13 @@
 -- that was sealed sealed, touched or not. And what a format leaves: zeros, and true checks.
 use Prim.Native.Nat.{ℕ, zero, suc, _+_, _*_, _≤_, _<_}
 use mathlib.Core.Path.{_≡_, refl, _∙_}
-use mathlib.Core.Logic.{_⊎_, inl, inr, ⊎-elim}
-use mathlib.Core.Bool.{Bool, true, false}
+use mathlib.Core.Logic.{_⊎_, ⊎-elim}
+use mathlib.Core.Bool.{true}
 use mathlib.Core.List.{List, [], _∷_}
 use native.Mathlib.Omega.{arith}
-use lib.Dec.{eqb}
 use lib.ListN.{length, getD, length-replicate}
-use borrow.Author.Tests.{eqb-true, eqb-false}
 use Rattle.octets.specs.Octets.{Bytes, Apart, splice, run, zeros}
+use Rattle.octets.specs.BelowLaws.{same?}
 use Rattle.octets.specs.SpliceLaws.{length-splice, bytes-splice, run-splice-out, getD-zeros, bytes-zeros}
 use Rattle.blocks.specs.Blocks.{blockAt, checkAt, isSealed, seal}
 use Rattle.blocks.specs.Laws.{length-seal, bytes-seal, run-seal, getD-seal, isSealed-splice, isSealed-seal, isSealed-seal-other}
@@ -82,13 +81,6 @@ unfolding committed
 run-committed b xs a n h = run-sealAll (storeAll b xs) xs a n h ∙ run-storeAll b xs a n h
 
 -- ---- a sealed block stays sealed
-
-same? : (m n : ℕ) → (m ≡ n) ⊎ (m ≡ n → ⊥)
-same? m n = by (eqb m n) refl
-  where
-    by : (t : Bool) → eqb m n ≡ t → (m ≡ n) ⊎ (m ≡ n → ⊥)
-    by true e = inl (eqb-true m n e)
-    by false e = inr (eqb-false m n e)
 
 -- no store goes into block n
 abbrev Untouched : ℕ → List Store → Type 0

@@ -1,16 +1,14 @@
 -- The layout of a schema's records and sets: fields in their order, records in their blocks, sets behind one another. Nothing here asks
 -- that the schema keeps the rules but for what a law names.
-use Prim.Native.Nat.{ℕ, zero, suc, _+_, _*_, _-_, _/_, _≤_, _<_}
+use Prim.Native.Nat.{ℕ, _+_, _*_, _-_, _/_, _≤_, _<_}
 use mathlib.Core.Path.{_≡_, refl}
-use mathlib.Core.Logic.{_⊎_, inl, inr}
 use mathlib.Core.Bool.{Bool, true, false, _&&_}
 use mathlib.Core.List.{List}
 use native.Mathlib.Omega.{arith}
-use native.Mathlib.Nat.{eq-or-lt-of-le, add-div-right, le-div-iff-mul-le, div-mul-le-self}
+use native.Mathlib.Nat.{add-div-right, le-div-iff-mul-le, div-mul-le-self}
 use borrow.Author.Tests.{lt-ltb, le-ltb, eq-eqb}
 use lib.Dec.{eqb, ltb}
-use Rattle.octets.specs.Below.{countBelow}
-use Rattle.octets.specs.BelowLaws.{sumBelow-at}
+use Rattle.octets.specs.BelowLaws.{sumBelow-at, countBelow-at}
 use Rattle.schema.specs.Fields.{mastersOf, setsOf, countOf, recordsOf, keyLengthOf, masterOf}
 use Rattle.schema.specs.Rules.{isPathSlot, masterOfSlot}
 use Rattle.schema.specs.Layout.{linksBefore, linksTo, pathKeyLength, keyPlace, linkPlace, bodyPlace, lengthOf, perBlock, blocksOf, firstBlock}
@@ -40,16 +38,6 @@ body-master s i h = rw (lt-ltb i (mastersOf s) h)
 pub link-above : (s : List ℕ) (i j : ℕ) → 12 + pathKeyLength s i j ≤ linkPlace s i j
 unfolding linkPlace
 link-above s i j = omega arith
-
--- a number that f holds of counts from there on
-countBelow-at : (f : ℕ → Bool) (i n : ℕ) → i < n → f i ≡ true → countBelow f i + 1 ≤ countBelow f n
-unfolding countBelow
-countBelow-at f i zero l h = absurd (omega arith)
-countBelow-at f i (suc n) l h = go (λ k. countBelow-at f i n k h) (eq-or-lt-of-le {n = i} {m = n} (omega arith))
-  where
-    go : (i < n → countBelow f i + 1 ≤ countBelow f n) → (i ≡ n) ⊎ (i < n) → countBelow f i + 1 ≤ countBelow f (suc n)
-    go below (inl k) = rw (k, rw k at h) (omega arith)
-    go below (inr k) = omega (arith, below k)
 
 -- a path counts among those to its master
 module _ (s : List ℕ) (i j : ℕ) (c : j < countOf s i) (few : countOf s i ≤ 4) where
