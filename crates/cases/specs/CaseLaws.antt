@@ -13,7 +13,7 @@ use Rattle.masters.specs.Find.{find, lowestFree}
 use Rattle.store.specs.Outcome.{outcome}
 use Rattle.cases.specs.Small.{smallSchema, bottleCall}
 use Rattle.octets.specs.Octets.{halfAt, wordAt, splice, setWord, every, sumOnto}
-use Rattle.octets.specs.Below.{allBelow, sumBelow, countBelow, lowestFrom}
+use Rattle.octets.specs.Below.{allBelow, sumBelow, countBelow, lowestFrom, concatBelow}
 use Rattle.terms.specs.Operation.{operationOf}
 use Rattle.blocks.specs.Blocks.{checkOf, isSealed, seal}
 use Rattle.schema.specs.Rules.{blockRule, headRule, nameRule, masterRule, variableRule, countRule, pathRule, slotRule, setRule, entryRule, restRule, namesRule, clash, lettersRule, formRule}
@@ -26,14 +26,14 @@ use Rattle.masters.specs.Find.{seek, tailFrom}
 use Rattle.masters.specs.Root.{addMasterFull, addMasterDamaged, addMasterStores, delMasterDamaged, delMasterStores}
 use Rattle.store.specs.Scene.{setNamed, pathNamed, sceneUnder}
 use Rattle.store.specs.Reply.{given, referenceAfter, areaAfter, storesOf, baseAfter}
-use Rattle.store.specs.Ladder.{refusal, wrongKind, blankAreaKey, otherAreaKey, testsBelow, hasPoints, ladder}
+use Rattle.store.specs.Ladder.{refusal, wrongKind, blankAreaKey, otherAreaKey, hasPoints, ladder}
 use Rattle.store.specs.Outcome.{done, outcomeIn}
 use Rattle.cases.specs.Small.{twoSets}
 use Rattle.cases.specs.Cases.{Case, after, ask, play, places, table, right, allRight}
 
 -- every definition on the way is opened, and the whole table computes to true
 all-right : allRight table ≡ true
-unfolding halfAt wordAt splice setWord every sameBytes sumOnto allBelow sumBelow countBelow lowestFrom operationOf checkOf isSealed seal blockRule headRule nameRule masterRule variableRule countRule pathRule slotRule setRule entryRule restRule namesRule clash lettersRule formRule linksBefore keyPlace linkPlace bodyPlace firstBlock sizeRule keepsRules pathFrom entryFrom schemaOf blockOf placeOf newMaster blocksSealed storeAll sealAll committed sealBelow formatted seek find tailFrom lowestFree addMasterFull addMasterDamaged addMasterStores delMasterDamaged delMasterStores setNamed pathNamed sceneUnder given referenceAfter areaAfter storesOf baseAfter refusal wrongKind blankAreaKey otherAreaKey testsBelow hasPoints ladder done outcomeIn outcome twoSets smallSchema bottleCall places play ask table right allRight
+unfolding halfAt wordAt splice setWord every sameBytes sumOnto allBelow sumBelow countBelow lowestFrom operationOf checkOf isSealed seal blockRule headRule nameRule masterRule variableRule countRule pathRule slotRule setRule entryRule restRule namesRule clash lettersRule formRule linksBefore keyPlace linkPlace bodyPlace firstBlock sizeRule keepsRules pathFrom entryFrom schemaOf blockOf placeOf newMaster blocksSealed storeAll sealAll committed sealBelow formatted seek find tailFrom lowestFree addMasterFull addMasterDamaged addMasterStores delMasterDamaged delMasterStores setNamed pathNamed sceneUnder given referenceAfter areaAfter storesOf baseAfter refusal wrongKind blankAreaKey otherAreaKey concatBelow hasPoints ladder done outcomeIn outcome twoSets smallSchema bottleCall places play ask table right allRight
 all-right = refl
 
 -- past the table's end

@@ -1,10 +1,10 @@
 -- Document 01, "Chains" and "The final 16": the adds and DELVD, which go over all paths of a set. `t` is the schema, `e` the variable
 -- set, `k` a path's number. What each path of the call speaks of comes from the keys: those of the area in an add, those stored in DELVD.
-use Prim.Native.Nat.{ℕ, zero, suc, _+_}
+use Prim.Native.Nat.{ℕ, _+_}
 use mathlib.Core.Bool.{Bool, cond, not, _||_}
 use mathlib.Core.List.{List, [], _∷_, _++_}
 use lib.Dec.{eqb}
-use Rattle.octets.specs.Below.{allBelow, upto}
+use Rattle.octets.specs.Below.{allBelow, upto, concatBelow}
 use Rattle.schema.specs.declared.Path.{Path}
 use Rattle.schema.specs.declared.Entry.{Entry}
 use Rattle.schema.specs.declared.Schema.{Schema}
@@ -33,11 +33,6 @@ damagedOn b t e k key l =
     unevenEnds b (mastersOn t e k) (masterOn b t e k key) (pathOf e k)
     || badNeighbour b e (pathOf e k) key (l .prior)
     || badNeighbour b e (pathOf e k) key (l .next)
-
--- lists of stores, path by path
-unfoldable pub pathByPath : (ℕ → List Store) → ℕ → List Store
-pathByPath f zero = []
-pathByPath f (suc n) = pathByPath f n ++ f n
 
 -- ---- the adds
 
@@ -76,7 +71,7 @@ module _ (b : List ℕ) (t : Schema) (e : Entry) (area : List ℕ) (spot : Spot)
   unfoldable pub addStores : ℕ → List Store
   addStores r =
       storeRecord e r (newVariable e (upto addLink (e .count)) area)
-      ∷ pathByPath (λ k. linkBetween e (pathOf e k) (mastersOn t e k) (addMaster k) (addLink k) r) (e .count)
+      ∷ concatBelow (λ k. linkBetween e (pathOf e k) (mastersOn t e k) (addMaster k) (addLink k) r) (e .count)
 
 -- ---- DELVD of the record r
 
@@ -97,4 +92,4 @@ module _ (b : List ℕ) (t : Schema) (e : Entry) (r : ℕ) where
 
   -- "path by path prior's side, next's side; then wiping"
   unfoldable pub delStores : List Store
-  delStores = pathByPath (λ k. unlinkFrom e (pathOf e k) (mastersOn t e k) (ownMaster k) (ownLink k)) (e .count) ++ (wipeRecord e r ∷ [])
+  delStores = concatBelow (λ k. unlinkFrom e (pathOf e k) (mastersOn t e k) (ownMaster k) (ownLink k)) (e .count) ++ (wipeRecord e r ∷ [])

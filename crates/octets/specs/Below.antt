@@ -32,3 +32,8 @@ module _ {ℓ} {A : Type ℓ} where
   abbrev pub upto : (ℕ → A) → ℕ → List A
   upto f zero = []
   upto f (suc n) = upto f n ++ (f n ∷ [])
+
+  -- the lists f 0, f 1, .. : the first n, one behind the other
+  unfoldable pub concatBelow : (ℕ → List A) → ℕ → List A
+  concatBelow f zero = []
+  concatBelow f (suc n) = concatBelow f n ++ f n

@@ -2,10 +2,10 @@
 -- got by following pointers, sets of records are lists of numbers. `t` is the schema, `b` a data base of its length.
 use Prim.Native.Nat.{ℕ, zero, suc, _+_, _*_, _-_, _/_, min}
 use mathlib.Core.Bool.{Bool, true, false, cond, not, _&&_, _||_}
-use mathlib.Core.List.{List, [], _∷_, _++_}
+use mathlib.Core.List.{List, [], _∷_}
 use lib.Dec.{eqb, leb}
 use Rattle.octets.specs.Octets.{run, allZero, allBlank, sameBytes}
-use Rattle.octets.specs.Below.{allBelow}
+use Rattle.octets.specs.Below.{allBelow, concatBelow}
 use Rattle.blocks.specs.Blocks.{blockAt, isSealed}
 use Rattle.schema.specs.declared.Path.{Path}
 use Rattle.schema.specs.declared.Entry.{Entry}
@@ -24,12 +24,8 @@ abbrev pub eachRecord : Entry → (ℕ → Bool) → Bool
 eachRecord e f = allBelow (λ k. f (k + 1)) (e .records)
 
 -- the record numbers of e that f holds of, in ascending order
-unfoldable pub numbersBelow : (ℕ → Bool) → ℕ → List ℕ
-numbersBelow f zero = []
-numbersBelow f (suc n) = numbersBelow f n ++ cond (f (n + 1)) ((n + 1) ∷ []) []
-
 abbrev pub recordsWith : Entry → (ℕ → Bool) → List ℕ
-recordsWith e f = numbersBelow f (e .records)
+recordsWith e f = concatBelow (λ k. cond (f (k + 1)) ((k + 1) ∷ []) []) (e .records)
 
 unfoldable pub isIn : ℕ → List ℕ → Bool
 isIn r [] = false

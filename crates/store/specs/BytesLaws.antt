@@ -8,7 +8,7 @@ use lib.ListN.{getD}
 use Rattle.octets.specs.Octets.{Bytes, run, wordBytes, zeros, setWord}
 use Rattle.octets.specs.SpliceLaws.{bytes-run, bytes-zeros}
 use Rattle.octets.specs.WordLaws.{bytes-wordBytes, bytes-setWord}
-use Rattle.octets.specs.Below.{upto}
+use Rattle.octets.specs.Below.{upto, concatBelow}
 use Rattle.terms.specs.declared.Status.{Status}
 use Rattle.terms.specs.Status.{statusNumber}
 use Rattle.terms.specs.declared.Operation.{Operation}
@@ -26,7 +26,7 @@ use Rattle.plans.specs.PlanLaws.{AllBytes, bytes-committed, bytes-formatted}
 use Rattle.masters.specs.Find.{heldByOwn, tailFrom, lowestFree}
 use Rattle.masters.specs.Root.{rootPriorSide, rootNextSide, addMasterStores, synonymMoves, delMasterStores}
 use Rattle.chains.specs.Chains.{priorSide, nextSide}
-use Rattle.chains.specs.Points.{Spot, pathByPath, mastersOn, addMaster, addLink, addStores, ownMaster, ownLink, delStores}
+use Rattle.chains.specs.Points.{Spot, mastersOn, addMaster, addLink, addStores, ownMaster, ownLink, delStores}
 use Rattle.store.specs.Call.{Call, oneOf}
 use Rattle.store.specs.Scene.{Scene, sceneOf}
 use Rattle.store.specs.Ladder.{ladder, refusal}
@@ -118,8 +118,8 @@ choose : (t : Bool) {xs ys : List Store} → OfBytes xs → OfBytes ys → OfByt
 choose true h k = h
 choose false h k = k
 
-paths : (f : ℕ → List Store) (n : ℕ) → ((k : ℕ) → OfBytes (f k)) → OfBytes (pathByPath f n)
-unfolding pathByPath
+paths : (f : ℕ → List Store) (n : ℕ) → ((k : ℕ) → OfBytes (f k)) → OfBytes (concatBelow f n)
+unfolding concatBelow
 paths f zero h = none
 paths f (suc n) h = then (paths f n h) (h n)
 

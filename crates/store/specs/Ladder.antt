@@ -1,12 +1,12 @@
 -- Document 01, "Status numbers": the order of the tests. One list for all calls: they differ in which tests they have, not in the order.
 -- `x` is the scene, `c` the call.
-use Prim.Native.Nat.{ℕ, zero, suc, _+_, _*_}
+use Prim.Native.Nat.{ℕ, _+_, _*_}
 use mathlib.Core.Bool.{Bool, true, cond, not, _&&_, _||_}
 use mathlib.Core.List.{List, [], _∷_, _++_}
 use lib.Dec.{eqb, leb, ltb}
 use lib.ListN.{length}
 use Rattle.octets.specs.Octets.{allBlank, sameBytes}
-use Rattle.octets.specs.Below.{allBelow}
+use Rattle.octets.specs.Below.{allBelow, concatBelow}
 use Rattle.terms.specs.Terms.{endRef}
 use Rattle.terms.specs.declared.Status.{Status}
 use Rattle.terms.specs.declared.Status.the-variants.{Done, Schm, Size, Func, Fntf, Kind, Path, Area, Klen, Bctl, Keys, Ivrp, Mrnf, Dupm, Imdl, Full, Damg}
@@ -129,14 +129,10 @@ masterTests x c os absent key k =
     ∷ on x os absent (not (eqb k (x .on)) && isMissing (findOn (c .base) (x .schema) (x .entry) k (key k)))
     ∷ []
 
-unfoldable pub testsBelow : (ℕ → List Test) → ℕ → List Test
-testsBelow f zero = []
-testsBelow f (suc n) = testsBelow f n ++ f n
-
 abbrev pub otherMasterTests : Scene → Call → List Test
 otherMasterTests x c =
-    testsBelow (masterTests x c adds Mrnf (areaKeyOn (x .entry) (c .area))) (x .entry .count)
-    ++ testsBelow (masterTests x c (Delvd ∷ []) Damg (λ k. keyOn (c .base) (x .entry) (c .reference) (pathOf (x .entry) k))) (x .entry .count)
+    concatBelow (masterTests x c adds Mrnf (areaKeyOn (x .entry) (c .area))) (x .entry .count)
+    ++ concatBelow (masterTests x c (Delvd ∷ []) Damg (λ k. keyOn (c .base) (x .entry) (c .reference) (pathOf (x .entry) k))) (x .entry .count)
 
 -- ---- 14, 15 and the final 16
 

@@ -8,6 +8,7 @@ use lib.ListN.{length}
 use Rattle.schema.specs.Layout.{keepsRules}
 use mathlib.Core.List.{List, [], _∷_, _++_}
 use native.Mathlib.Omega.{arith}
+use Rattle.octets.specs.Below.{concatBelow}
 use Rattle.terms.specs.declared.Status.{Status}
 use Rattle.terms.specs.declared.Status.the-variants.{Done, Schm, Size, Func, Mrnf}
 use Rattle.terms.specs.declared.Operation.the-variants.{Formt, Unknown}
@@ -17,7 +18,7 @@ use Rattle.store.specs.Call.{Call, oneOf, adds}
 use Rattle.store.specs.Scene.{Scene, sceneOf, sceneUnder}
 use Rattle.store.specs.Reply.{storesOf}
 use Rattle.records.specs.Areas.{areaKeyOn}
-use Rattle.store.specs.Ladder.{Test, refusal, parameterTests, foundTests, masterTests, testsBelow, otherMasterTests, finalTests, ladder}
+use Rattle.store.specs.Ladder.{Test, refusal, parameterTests, foundTests, masterTests, otherMasterTests, finalTests, ladder}
 use Rattle.store.specs.Outcome.{outcome}
 use Rattle.store.specs.Theorems.{status-of-ladder}
 
@@ -36,10 +37,10 @@ pub passes-append : (tests more : List Test) → Passes tests → Passes more �
 passes-append [] more h k = k
 passes-append (a ∷ tests) more h k = (h .0, passes-append tests more (h .1) k)
 
-pub passes-below : (f : ℕ → List Test) (n : ℕ) → ((k : ℕ) → k < n → Passes (f k)) → Passes (testsBelow f n)
-unfolding testsBelow
+pub passes-below : (f : ℕ → List Test) (n : ℕ) → ((k : ℕ) → k < n → Passes (f k)) → Passes (concatBelow f n)
+unfolding concatBelow
 passes-below f zero h = tt
-passes-below f (suc n) h = passes-append (testsBelow f n) (f n) (passes-below f n (λ k l. h k (omega arith))) (h n (omega arith))
+passes-below f (suc n) h = passes-append (concatBelow f n) (f n) (passes-below f n (λ k l. h k (omega arith))) (h n (omega arith))
 
 pub refusal-done : (tests : List Test) → Passes tests → refusal tests ≡ Done
 unfolding refusal
@@ -57,7 +58,7 @@ module _ (x : Scene) (c : Call) (e : x .operation ≡ Formt) where
 
   others-pass : Passes (otherMasterTests x c)
   others-pass =
-      passes-append (testsBelow (masterTests x c adds Mrnf (areaKeyOn (x .entry) (c .area))) (x .entry .count)) _
+      passes-append (concatBelow (masterTests x c adds Mrnf (areaKeyOn (x .entry) (c .area))) (x .entry .count)) _
       (passes-below _ (x .entry .count) (λ k l. rw e (refl, (refl, tt))))
       (passes-below _ (x .entry .count) (λ k l. rw e (refl, (refl, tt))))
 

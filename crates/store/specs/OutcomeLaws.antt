@@ -7,12 +7,13 @@ use native.Mathlib.Omega.{arith}
 use lib.Dec.{eqb, lit<}
 use lib.ListN.{length}
 use borrow.Author.Tests.{eqb-true, not-false}
+use Rattle.octets.specs.Below.{concatBelow}
 use Rattle.terms.specs.declared.Status.{Status}
 use Rattle.terms.specs.declared.Status.the-variants.{Done}
 use Rattle.terms.specs.Status.{statusNumber}
 use Rattle.store.specs.Call.{Call, oneOf}
 use Rattle.store.specs.Scene.{Scene, sceneOf}
-use Rattle.store.specs.Ladder.{Test, refusal, generalTests, parameterTests, foundTests, testsBelow, otherMasterTests, finalTests, ladder}
+use Rattle.store.specs.Ladder.{Test, refusal, generalTests, parameterTests, foundTests, otherMasterTests, finalTests, ladder}
 use Rattle.plans.specs.Plan.{formatted, committed}
 use Rattle.plans.specs.PlanLaws.{length-committed, length-formatted}
 use Rattle.terms.specs.Laws.{status-number-one}
@@ -31,10 +32,10 @@ refusing-append : (tests more : List Test) → Refusing tests → Refusing more 
 refusing-append [] more h k = k
 refusing-append (a ∷ tests) more h k = (h .0, refusing-append tests more (h .1) k)
 
-refusing-below : (f : ℕ → List Test) (n : ℕ) → ((k : ℕ) → Refusing (f k)) → Refusing (testsBelow f n)
-unfolding testsBelow
+refusing-below : (f : ℕ → List Test) (n : ℕ) → ((k : ℕ) → Refusing (f k)) → Refusing (concatBelow f n)
+unfolding concatBelow
 refusing-below f zero h = tt
-refusing-below f (suc n) h = refusing-append (testsBelow f n) (f n) (refusing-below f n h) (h n)
+refusing-below f (suc n) h = refusing-append (concatBelow f n) (f n) (refusing-below f n h) (h n)
 
 pub ladder-refuses : (x : Scene) (c : Call) → Refusing (ladder x c)
 unfolding ladder
@@ -54,7 +55,7 @@ ladder-refuses x c =
     found = search (tt, lit<)
 
     others : Refusing (otherMasterTests x c)
-    others = refusing-append (testsBelow _ (x .entry .count)) (testsBelow _ (x .entry .count)) (refusing-below _ (x .entry .count) (λ k. search (tt, lit<))) (refusing-below _ (x .entry .count) (λ k. search (tt, lit<)))
+    others = refusing-append (concatBelow _ (x .entry .count)) (concatBelow _ (x .entry .count)) (refusing-below _ (x .entry .count) (λ k. search (tt, lit<))) (refusing-below _ (x .entry .count) (λ k. search (tt, lit<)))
 
     final : Refusing (finalTests x c)
     final = search (tt, lit<)
