@@ -10,7 +10,7 @@ use Rattle.octets.specs.Octets.{sameBytes}
 use Rattle.schema.specs.Decode.{schemaOf}
 use Rattle.plans.specs.Plan.{formatted}
 use Rattle.masters.specs.Find.{find, lowestFree}
-use Rattle.store.specs.Outcome.{outcome}
+use Rattle.calls.specs.Outcome.{outcome}
 use Rattle.cases.specs.Small.{smallSchema, bottleCall}
 use Rattle.octets.specs.Octets.{halfAt, wordAt, splice, setWord, every, sumOnto}
 use Rattle.octets.specs.Below.{allBelow, sumBelow, countBelow, lowestFrom, concatBelow}
@@ -24,10 +24,11 @@ use Rattle.records.specs.Areas.{newMaster}
 use Rattle.plans.specs.Plan.{blocksSealed, storeAll, sealAll, committed, sealBelow}
 use Rattle.masters.specs.Find.{seek, tailFrom}
 use Rattle.masters.specs.Root.{addMasterFull, addMasterDamaged, addMasterStores, delMasterDamaged, delMasterStores}
-use Rattle.store.specs.Scene.{setNamed, pathNamed, sceneUnder}
-use Rattle.store.specs.Reply.{given, referenceAfter, areaAfter, storesOf, baseAfter}
-use Rattle.store.specs.Ladder.{refusal, wrongKind, blankAreaKey, otherAreaKey, hasPoints, ladder}
-use Rattle.store.specs.Outcome.{done, outcomeIn}
+use Rattle.calls.specs.Scene.{setNamed, pathNamed, sceneUnder}
+use Rattle.calls.specs.Reply.{given, referenceAfter, areaAfter, storesOf, baseAfter}
+use Rattle.chains.specs.Chains.{hasPoints}
+use Rattle.calls.specs.Ladder.{refusal, wrongKind, blankAreaKey, otherAreaKey, ladder}
+use Rattle.calls.specs.Outcome.{done, outcomeIn}
 use Rattle.cases.specs.Small.{twoSets}
 use Rattle.cases.specs.Cases.{Case, after, ask, play, places, table, right, allRight}
 

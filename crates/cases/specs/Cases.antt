@@ -11,8 +11,8 @@ use Rattle.schema.specs.Layout.{lengthOf, totalBlocks}
 use Rattle.schema.specs.Decode.{entryOf, schemaOf}
 use Rattle.plans.specs.Plan.{formatted}
 use Rattle.masters.specs.Find.{find, recordFound, lowestFree}
-use Rattle.store.specs.Call.{Call, Outcome}
-use Rattle.store.specs.Outcome.{outcome}
+use Rattle.calls.specs.Call.{Call, Outcome}
+use Rattle.calls.specs.Outcome.{outcome}
 use Rattle.cases.specs.Small.{smallSchema, bottleCall}
 
 -- one call on a bottle

@@ -5,7 +5,7 @@ use lib.ListN.{length}
 use Rattle.octets.specs.Octets.{wordBytes, zeros}
 use Rattle.octets.specs.Text.{text}
 use Rattle.blocks.specs.Blocks.{seal}
-use Rattle.store.specs.Call.{Call}
+use Rattle.calls.specs.Call.{Call}
 
 -- a schema of one master set and one variable set, before its check is set; the eight entries end at 400
 unfoldable pub twoSets : List ℕ → List ℕ → List ℕ

@@ -1,12 +1,15 @@
 -- Document 01, "Chains" and "The final 16": one path of one variable set. `e` is the variable set, `p` the path, `x` the set of its
 -- masters, `m` the record of the master there. A master's first and last are the ends of its chain.
 use Prim.Native.Nat.{ℕ, _+_}
-use mathlib.Core.Bool.{Bool, cond, not, _&&_, xor}
+use mathlib.Core.Bool.{Bool, cond, not, _&&_, _||_, xor}
 use mathlib.Core.List.{List, [], _∷_}
 use lib.Dec.{eqb}
 use Rattle.octets.specs.Octets.{sameBytes}
+use Rattle.octets.specs.Below.{allBelow}
 use Rattle.schema.specs.declared.Path.{Path}
 use Rattle.schema.specs.declared.Entry.{Entry}
+use Rattle.schema.specs.declared.Schema.{Schema}
+use Rattle.schema.specs.Decode.{entryOf, pathOf, setCount}
 use Rattle.schema.specs.Place.{inSet}
 use Rattle.records.specs.declared.Link.{Link}
 use Rattle.records.specs.Records.{isLive, firstOn, lastOn, keyOn}
@@ -38,3 +41,11 @@ linkBetween e p x m l r = priorSide e p x m (l .prior) r ∷ nextSide e p x m (l
 
 abbrev pub unlinkFrom : Entry → Path → Entry → ℕ → Link → List Store
 unlinkFrom e p x m l = priorSide e p x m (l .prior) (l .next) ∷ nextSide e p x m (l .next) (l .prior) ∷ []
+
+-- 14: "master has a first or last not 0": of any path to it, over all sets. `n` is the entry number of the master set, `r` the master.
+unfoldable pub hasPoints : Schema → List ℕ → ℕ → ℕ → Bool
+hasPoints t b n r =
+    not (allBelow (λ i. allBelow (λ j.
+    not (eqb (pathOf (entryOf t i) j .master .0) n)
+    || eqb (firstOn b (entryOf t n) r (pathOf (entryOf t i) j)) 0 && eqb (lastOn b (entryOf t n) r (pathOf (entryOf t i) j)) 0)
+    (entryOf t i .count)) (setCount t))

@@ -15,6 +15,8 @@ use Rattle.records.specs.Areas.{areaKeyOn, newVariable}
 use Rattle.plans.specs.Plan.{Store, storeRecord, wipeRecord}
 use Rattle.masters.specs.declared.Found.{Found}
 use Rattle.masters.specs.Find.{find, recordFound}
+use Rattle.chains.specs.declared.Spot.{Spot}
+use Rattle.chains.specs.declared.Spot.the-variants.{Last, After, Before}
 use Rattle.chains.specs.Chains.{badNeighbour, unevenEnds, linkBetween, unlinkFrom}
 
 -- the set of path k's masters, where the master of a key is there, and its record
@@ -36,21 +38,16 @@ damagedOn b t e k key l =
 
 -- ---- the adds
 
--- where a new record goes: last, or after or before the referenced record
-pub data Spot : Type 0 where
-  last : Spot
-  after before : ℕ → Spot
-
 -- "ADDVC links last on all paths. ADDVA and ADDVB link after or before the reference on the named path, last on the others."
 abbrev pub spotOn : Spot → ℕ → ℕ → Spot
-spotOn s named k = cond (eqb k named) s last
+spotOn s named k = cond (eqb k named) s Last
 
 -- its neighbours there, for a chain whose last record is z. (The reference itself, a neighbour of ADDVA's and ADDVB's new record, has
 -- passed test 11: it is live and of that key. So asking the same of both neighbours asks what document 01 lists.)
 unfoldable pub neighboursAt : List ℕ → Entry → Path → ℕ → Spot → Link
-neighboursAt b e p z last = record { prior = z; next = 0 }
-neighboursAt b e p z (after r) = record { prior = r; next = nextOn b e r p }
-neighboursAt b e p z (before r) = record { prior = priorOn b e r p; next = r }
+neighboursAt b e p z Last = record { prior = z; next = 0 }
+neighboursAt b e p z (After r) = record { prior = r .0; next = nextOn b e (r .0) p }
+neighboursAt b e p z (Before r) = record { prior = priorOn b e (r .0) p; next = r .0 }
 
 module _ (b : List ℕ) (t : Schema) (e : Entry) (area : List ℕ) (spot : Spot) (named : ℕ) where
   -- on path k: the new record's key, the record of its master, and its neighbours

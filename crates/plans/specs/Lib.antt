@@ -1,2 +1,5 @@
+pub mod FitLaws
 pub mod Plan
 pub mod PlanLaws
+pub mod PlanOk
+pub mod Stores

@@ -1,2 +1,3 @@
+pub mod Linear
 pub mod Sound
 pub mod SoundLaws

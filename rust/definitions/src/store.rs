@@ -26,7 +26,7 @@ pub struct Outcome {
     pub base: Vec<u8>,
 }
 
-const OUTCOME: &str = "store/Outcome.outcome";
+const OUTCOME: &str = "calls/Outcome.outcome";
 const STATUS_NUMBER: &str = "terms/Status.statusNumber";
 
 /// Definitions of a schema's bytes alone. The same schema serves many calls,

@@ -9,10 +9,10 @@ use Rattle.terms.specs.Laws.{status-number-one}
 use Rattle.terms.specs.declared.Status.{Status}
 use Rattle.terms.specs.declared.Status.the-variants.{Done}
 use Rattle.terms.specs.Status.{statusNumber}
-use Rattle.store.specs.Call.{Call, Outcome}
-use Rattle.store.specs.Scene.{sceneOf}
-use Rattle.store.specs.Ladder.{ladder, refusal}
-use Rattle.store.specs.Outcome.{refused, done, outcomeIn, outcome, IsOutcome}
+use Rattle.calls.specs.Call.{Call, Outcome}
+use Rattle.calls.specs.Scene.{sceneOf}
+use Rattle.calls.specs.Ladder.{ladder, refusal}
+use Rattle.calls.specs.Outcome.{refused, done, outcomeIn, outcome, IsOutcome}
 
 -- every call has an outcome, and the statement "this is the outcome" admits no other
 pub has-outcome : (c : Call) → IsOutcome c (outcome c)

@@ -6,10 +6,10 @@ use lib.Dec.{eqb}
 use Rattle.terms.specs.declared.Status.{Status}
 use Rattle.terms.specs.declared.Status.the-variants.{Done}
 use Rattle.terms.specs.Status.{statusNumber}
-use Rattle.store.specs.Call.{Call, Outcome}
-use Rattle.store.specs.Scene.{Scene, sceneOf}
-use Rattle.store.specs.Ladder.{ladder, refusal}
-use Rattle.store.specs.Reply.{referenceAfter, areaAfter, baseAfter}
+use Rattle.calls.specs.Call.{Call, Outcome}
+use Rattle.calls.specs.Scene.{Scene, sceneOf}
+use Rattle.calls.specs.Ladder.{ladder, refusal}
+use Rattle.calls.specs.Reply.{referenceAfter, areaAfter, baseAfter}
 
 -- "Nonzero: reference as given, data base and area unchanged."
 abbrev pub refused : Call → Status → Outcome

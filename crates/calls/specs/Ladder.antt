@@ -13,20 +13,20 @@ use Rattle.terms.specs.declared.Status.the-variants.{Done, Schm, Size, Func, Fn
 use Rattle.terms.specs.declared.Operation.{Operation}
 use Rattle.terms.specs.declared.Operation.the-variants.{Formt, Sinon, AddM, DelM, Readm, Writm, Rqloc, Rdnxt, Readv, Readr, Readd, Writv, Addvc, Addvb, Addva, Delvd, Unknown}
 use Rattle.schema.specs.declared.Schema.{Schema}
-use Rattle.schema.specs.Decode.{entryOf, pathOf, setCount}
+use Rattle.schema.specs.Decode.{pathOf, setCount}
 use Rattle.schema.specs.Layout.{keepsRules}
 use Rattle.schema.specs.Place.{inSet}
-use Rattle.records.specs.Records.{keyOn, firstOn, lastOn}
+use Rattle.records.specs.Records.{keyOn}
 use Rattle.records.specs.Areas.{isMaster, areaLength, areaMasterKey, areaKeyOn}
 use Rattle.plans.specs.Plan.{blocksSealed}
 use Rattle.masters.specs.Find.{isAt, isMissing, isDamaged, isFull}
 use Rattle.masters.specs.Root.{addMasterFull, addMasterDamaged, delMasterDamaged}
-use Rattle.chains.specs.Chains.{isPointOf, badNeighbour, unevenEnds}
+use Rattle.chains.specs.Chains.{isPointOf, badNeighbour, unevenEnds, hasPoints}
 use Rattle.chains.specs.Points.{findOn, addDamaged, delDamaged}
 use Rattle.sound.specs.Sound.{sound}
-use Rattle.store.specs.Call.{Call, oneOf, masterCalls, variableCalls, adds}
-use Rattle.store.specs.Scene.{Scene}
-use Rattle.store.specs.Reply.{linkOf, masterIn, homeOfKey, forward, backward, spotOf, storesOf}
+use Rattle.calls.specs.Call.{Call, oneOf, masterCalls, variableCalls, adds}
+use Rattle.calls.specs.Scene.{Scene}
+use Rattle.calls.specs.Reply.{linkOf, masterIn, homeOfKey, forward, backward, spotOf, storesOf}
 
 -- a test: the status it refuses with, and whether it does
 pub record Test : Type 0 where
@@ -135,14 +135,6 @@ otherMasterTests x c =
     ++ concatBelow (masterTests x c (Delvd ∷ []) Damg (λ k. keyOn (c .base) (x .entry) (c .reference) (pathOf (x .entry) k))) (x .entry .count)
 
 -- ---- 14, 15 and the final 16
-
--- "master has a first or last not 0": of any path to it, over all sets. `n` is the entry number of the master set, `r` the master.
-unfoldable pub hasPoints : Schema → List ℕ → ℕ → ℕ → Bool
-hasPoints t b n r =
-    not (allBelow (λ i. allBelow (λ j.
-    not (eqb (pathOf (entryOf t i) j .master .0) n)
-    || eqb (firstOn b (entryOf t n) r (pathOf (entryOf t i) j)) 0 && eqb (lastOn b (entryOf t n) r (pathOf (entryOf t i) j)) 0)
-    (entryOf t i .count)) (setCount t))
 
 -- READV and READR: "first and last are one 0 and one not, tested .. on the named path .. with LKxx"; "Pointers used: READV first or next,
 -- READR last or prior"

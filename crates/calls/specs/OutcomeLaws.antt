@@ -11,16 +11,16 @@ use Rattle.octets.specs.Below.{concatBelow}
 use Rattle.terms.specs.declared.Status.{Status}
 use Rattle.terms.specs.declared.Status.the-variants.{Done}
 use Rattle.terms.specs.Status.{statusNumber}
-use Rattle.store.specs.Call.{Call, oneOf}
-use Rattle.store.specs.Scene.{Scene, sceneOf}
-use Rattle.store.specs.Ladder.{Test, refusal, generalTests, parameterTests, foundTests, otherMasterTests, finalTests, ladder}
+use Rattle.calls.specs.Call.{Call, oneOf}
+use Rattle.calls.specs.Scene.{Scene, sceneOf}
+use Rattle.calls.specs.Ladder.{Test, refusal, generalTests, parameterTests, foundTests, otherMasterTests, finalTests, ladder}
 use Rattle.plans.specs.Plan.{formatted, committed}
 use Rattle.plans.specs.PlanLaws.{length-committed, length-formatted}
 use Rattle.terms.specs.Laws.{status-number-one}
-use Rattle.store.specs.Reply.{storesOf, baseAfter}
-use Rattle.store.specs.Outcome.{refused, done, outcomeIn, outcome}
-use Rattle.store.specs.Theorems.{status-of-ladder}
-use Rattle.store.specs.LadderLaws.{Passes}
+use Rattle.calls.specs.Reply.{storesOf, baseAfter}
+use Rattle.calls.specs.Outcome.{refused, done, outcomeIn, outcome}
+use Rattle.calls.specs.Theorems.{status-of-ladder}
+use Rattle.calls.specs.LadderLaws.{Passes}
 use Rattle.terms.specs.declared.Operation.the-variants.{Formt}
 
 -- every test of the list refuses with a status that is not 0

@@ -15,7 +15,7 @@ use Rattle.schema.specs.declared.Schema.{Schema}
 use Rattle.schema.specs.Decode.{entryOf, pathOf, setCount, schemaOf}
 use Rattle.masters.specs.declared.Found.{Found}
 use Rattle.masters.specs.Find.{find}
-use Rattle.store.specs.Call.{Call, oneOf, variableCalls}
+use Rattle.calls.specs.Call.{Call, oneOf, variableCalls}
 
 pub record Scene : Type 0 where
   pub schema : Schema

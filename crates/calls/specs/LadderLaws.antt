@@ -14,13 +14,13 @@ use Rattle.terms.specs.declared.Status.the-variants.{Done, Schm, Size, Func, Mr
 use Rattle.terms.specs.declared.Operation.the-variants.{Formt, Unknown}
 use Rattle.terms.specs.Operation.{operationOf}
 use Rattle.plans.specs.Plan.{blocksSealed}
-use Rattle.store.specs.Call.{Call, oneOf, adds}
-use Rattle.store.specs.Scene.{Scene, sceneOf, sceneUnder}
-use Rattle.store.specs.Reply.{storesOf}
+use Rattle.calls.specs.Call.{Call, oneOf, adds}
+use Rattle.calls.specs.Scene.{Scene, sceneOf, sceneUnder}
+use Rattle.calls.specs.Reply.{storesOf}
 use Rattle.records.specs.Areas.{areaKeyOn}
-use Rattle.store.specs.Ladder.{Test, refusal, parameterTests, foundTests, masterTests, otherMasterTests, finalTests, ladder}
-use Rattle.store.specs.Outcome.{outcome}
-use Rattle.store.specs.Theorems.{status-of-ladder}
+use Rattle.calls.specs.Ladder.{Test, refusal, parameterTests, foundTests, masterTests, otherMasterTests, finalTests, ladder}
+use Rattle.calls.specs.Outcome.{outcome}
+use Rattle.calls.specs.Theorems.{status-of-ladder}
 
 -- every test of the list passes
 abbrev pub Passes : List Test → Type 0

@@ -15,9 +15,11 @@ use Rattle.records.specs.Areas.{areaOf, areaBody}
 use Rattle.plans.specs.Plan.{Store, storeRun, committed, formatted}
 use Rattle.masters.specs.Find.{homeIn, recordFound, lowestFree}
 use Rattle.masters.specs.Root.{addMasterStores, delMasterStores}
-use Rattle.chains.specs.Points.{Spot, last, after, before, addStores, delStores}
-use Rattle.store.specs.Call.{Call, oneOf}
-use Rattle.store.specs.Scene.{Scene}
+use Rattle.chains.specs.declared.Spot.{Spot}
+use Rattle.chains.specs.declared.Spot.the-variants.{Last, After, Before}
+use Rattle.chains.specs.Points.{addStores, delStores}
+use Rattle.calls.specs.Call.{Call, oneOf}
+use Rattle.calls.specs.Scene.{Scene}
 
 -- "LKxx is its four characters": that of the named path
 abbrev pub linkOf : Path → ℕ
@@ -77,23 +79,23 @@ given x c = givenBy (x .operation) x c
 -- ---- where an add puts its record
 
 abbrev pub spotOf : Operation → ℕ → Spot
-spotOf Addva r = after r
-spotOf Addvb r = before r
-spotOf Addvc r = last
-spotOf Formt r = last
-spotOf Sinon r = last
-spotOf AddM r = last
-spotOf DelM r = last
-spotOf Readm r = last
-spotOf Writm r = last
-spotOf Rqloc r = last
-spotOf Rdnxt r = last
-spotOf Readv r = last
-spotOf Readr r = last
-spotOf Readd r = last
-spotOf Writv r = last
-spotOf Delvd r = last
-spotOf Unknown r = last
+spotOf Addva r = After (record { 0 = r })
+spotOf Addvb r = Before (record { 0 = r })
+spotOf Addvc r = Last
+spotOf Formt r = Last
+spotOf Sinon r = Last
+spotOf AddM r = Last
+spotOf DelM r = Last
+spotOf Readm r = Last
+spotOf Writm r = Last
+spotOf Rqloc r = Last
+spotOf Rdnxt r = Last
+spotOf Readv r = Last
+spotOf Readr r = Last
+spotOf Readd r = Last
+spotOf Writv r = Last
+spotOf Delvd r = Last
+spotOf Unknown r = Last
 
 -- ---- the reference
 

@@ -26,12 +26,13 @@ use Rattle.plans.specs.PlanLaws.{AllBytes, bytes-committed, bytes-formatted}
 use Rattle.masters.specs.Find.{heldByOwn, tailFrom, lowestFree}
 use Rattle.masters.specs.Root.{rootPriorSide, rootNextSide, addMasterStores, synonymMoves, delMasterStores}
 use Rattle.chains.specs.Chains.{priorSide, nextSide}
-use Rattle.chains.specs.Points.{Spot, mastersOn, addMaster, addLink, addStores, ownMaster, ownLink, delStores}
-use Rattle.store.specs.Call.{Call, oneOf}
-use Rattle.store.specs.Scene.{Scene, sceneOf}
-use Rattle.store.specs.Ladder.{ladder, refusal}
-use Rattle.store.specs.Reply.{masterIn, homeOfKey, given, spotOf, areaAfter, storesBy, storesOf, baseAfter}
-use Rattle.store.specs.Outcome.{refused, done, outcomeIn, outcome}
+use Rattle.chains.specs.declared.Spot.{Spot}
+use Rattle.chains.specs.Points.{mastersOn, addMaster, addLink, addStores, ownMaster, ownLink, delStores}
+use Rattle.calls.specs.Call.{Call, oneOf}
+use Rattle.calls.specs.Scene.{Scene, sceneOf}
+use Rattle.calls.specs.Ladder.{ladder, refusal}
+use Rattle.calls.specs.Reply.{masterIn, homeOfKey, given, spotOf, areaAfter, storesBy, storesOf, baseAfter}
+use Rattle.calls.specs.Outcome.{refused, done, outcomeIn, outcome}
 
 -- ---- runs put together
 
