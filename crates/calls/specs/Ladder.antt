@@ -12,7 +12,7 @@ use Rattle.terms.specs.declared.Status.{Status}
 use Rattle.terms.specs.declared.Status.the-variants.{Done, Schm, Size, Func, Fntf, Kind, Path, Area, Klen, Bctl, Keys, Ivrp, Mrnf, Dupm, Imdl, Full, Damg}
 use Rattle.terms.specs.declared.Operation.{Operation}
 use Rattle.terms.specs.declared.Operation.the-variants.{Formt, Sinon, AddM, DelM, Readm, Writm, Rqloc, Rdnxt, Readv, Readr, Readd, Writv, Addvc, Addvb, Addva, Delvd, Unknown}
-use Rattle.schema.specs.declared.Schema.{Schema}
+use Rattle.schema.specs.declared.Entry.{Entry}
 use Rattle.schema.specs.Decode.{pathOf, setCount}
 use Rattle.schema.specs.Layout.{keepsRules}
 use Rattle.schema.specs.Place.{inSet}
@@ -21,7 +21,7 @@ use Rattle.records.specs.Areas.{isMaster, areaLength, areaMasterKey, areaKeyOn}
 use Rattle.plans.specs.Plan.{blocksSealed}
 use Rattle.masters.specs.Find.{isAt, isMissing, isDamaged, isFull}
 use Rattle.masters.specs.Root.{addMasterFull, addMasterDamaged, delMasterDamaged}
-use Rattle.chains.specs.Chains.{isPointOf, badNeighbour, unevenEnds, hasPoints}
+use Rattle.chains.specs.Chains.{isPointOf, readDamaged, hasPoints}
 use Rattle.chains.specs.Points.{findOn, addDamaged, delDamaged}
 use Rattle.sound.specs.Sound.{sound}
 use Rattle.calls.specs.Call.{Call, oneOf, masterCalls, variableCalls, adds}
@@ -57,24 +57,21 @@ generalTests x c =
 -- ---- 4 to 11: parameters. "FORMT and SINON test no more parameters"
 
 -- 5: "master call on a variable set, or the reverse"
-unfoldable pub wrongKind : Scene → Bool
-wrongKind x = oneOf (x .operation) masterCalls && not (isMaster (x .entry)) || oneOf (x .operation) variableCalls && isMaster (x .entry)
+unfoldable pub wrongKind : Operation → Entry → Bool
+wrongKind o e = oneOf o masterCalls && not (isMaster e) || oneOf o variableCalls && isMaster e
 
 -- 8: the length of the control key
 abbrev pub keyLength : Scene → ℕ
 keyLength x = x .masters .key
 
 -- 9: "for any area key of ADD-M or an add"
-unfoldable pub blankAreaKey : Scene → Call → Bool
-blankAreaKey x c =
-    cond (isMaster (x .entry))
-    (allBlank (areaMasterKey (x .entry) (c .area)))
-    (not (allBelow (λ k. not (allBlank (areaKeyOn (x .entry) (c .area) k))) (x .entry .count)))
+unfoldable pub blankAreaKey : Entry → List ℕ → Bool
+blankAreaKey e area =
+    cond (isMaster e) (allBlank (areaMasterKey e area)) (not (allBelow (λ k. not (allBlank (areaKeyOn e area k))) (e .count)))
 
--- 10: "ADD-M, WRITM, and for adds the named path's key": differs from the control key
-unfoldable pub otherAreaKey : Scene → Call → Bool
-otherAreaKey x c =
-    not (sameBytes (cond (isMaster (x .entry)) (areaMasterKey (x .entry) (c .area)) (areaKeyOn (x .entry) (c .area) (x .on))) (c .key))
+-- 10: "ADD-M, WRITM, and for adds the named path's key": differs from the control key; `on` is the named path
+unfoldable pub otherAreaKey : Entry → ℕ → List ℕ → List ℕ → Bool
+otherAreaKey e on key area = not (sameBytes (cond (isMaster e) (areaMasterKey e area) (areaKeyOn e area on)) key)
 
 -- 11, "Forms for 11": a record number, the named path's LKxx
 abbrev pub isNumber : Scene → Call → Bool
@@ -86,13 +83,13 @@ isLink x c = eqb (c .reference) (linkOf (x .path))
 abbrev pub parameterTests : Scene → Call → List Test
 parameterTests x c =
     but x (Formt ∷ Sinon ∷ []) Fntf (not (ltb (x .number) (setCount (x .schema))))
-    ∷ but x (Formt ∷ Sinon ∷ []) Kind (wrongKind x)
+    ∷ but x (Formt ∷ Sinon ∷ []) Kind (wrongKind (x .operation) (x .entry))
     ∷ on x variableCalls Path (not (ltb (x .on) (x .entry .count)))
     ∷ but x (Formt ∷ Sinon ∷ DelM ∷ Delvd ∷ Rqloc ∷ []) Area (not (eqb (length (c .area)) (areaLength (x .entry))))
     ∷ but x (Formt ∷ Sinon ∷ Rdnxt ∷ []) Klen (not (eqb (length (c .key)) (keyLength x)))
     ∷ but x (Formt ∷ Sinon ∷ Rdnxt ∷ []) Bctl (allBlank (c .key))
-    ∷ on x (AddM ∷ adds) Bctl (blankAreaKey x c)
-    ∷ on x (AddM ∷ Writm ∷ adds) Keys (otherAreaKey x c)
+    ∷ on x (AddM ∷ adds) Bctl (blankAreaKey (x .entry) (c .area))
+    ∷ on x (AddM ∷ Writm ∷ adds) Keys (otherAreaKey (x .entry) (x .on) (c .key) (c .area))
     ∷ on x (Readv ∷ Readr ∷ []) Ivrp (not (isLink x c || isNumber x c))
     ∷ on x (Rdnxt ∷ []) Ivrp (not (leb (c .reference) (x .entry .records)))
     ∷ on x (Addvc ∷ []) Ivrp (eqb (c .reference) endRef)
@@ -106,9 +103,8 @@ abbrev pub finders : List Operation
 finders = AddM ∷ DelM ∷ Readm ∷ Writm ∷ variableCalls
 
 -- "10 for WRITV if an area key differs from the stored one"
-unfoldable pub otherStoredKey : Scene → Call → Bool
-otherStoredKey x c =
-    not (allBelow (λ k. sameBytes (areaKeyOn (x .entry) (c .area) k) (keyOn (c .base) (x .entry) (c .reference) (pathOf (x .entry) k))) (x .entry .count))
+unfoldable pub otherStoredKey : List ℕ → Entry → ℕ → List ℕ → Bool
+otherStoredKey b e r area = not (allBelow (λ k. sameBytes (areaKeyOn e area k) (keyOn b e r (pathOf e k))) (e .count))
 
 abbrev pub foundTests : Scene → Call → List Test
 foundTests x c =
@@ -117,7 +113,7 @@ foundTests x c =
     ∷ on x (AddM ∷ []) Dupm (isAt (x .found))
     ∷ on x (Readv ∷ Readr ∷ []) Ivrp (not (isLink x c) && not (isPointOf (c .base) (x .entry) (x .path) (c .key) (c .reference)))
     ∷ on x (Readd ∷ Writv ∷ Addvb ∷ Addva ∷ Delvd ∷ []) Ivrp (not (isPointOf (c .base) (x .entry) (x .path) (c .key) (c .reference)))
-    ∷ on x (Writv ∷ []) Keys (otherStoredKey x c)
+    ∷ on x (Writv ∷ []) Keys (otherStoredKey (c .base) (x .entry) (c .reference) (c .area))
     ∷ []
 
 -- ---- "for adds and DELVD the other paths' masters in path order (16, then 12; in DELVD an absent one is 16)"
@@ -136,20 +132,14 @@ otherMasterTests x c =
 
 -- ---- 14, 15 and the final 16
 
--- READV and READR: "first and last are one 0 and one not, tested .. on the named path .. with LKxx"; "Pointers used: READV first or next,
--- READR last or prior"
-unfoldable pub readDamaged : Scene → Call → ℕ → Bool
-readDamaged x c n =
-    isLink x c && unevenEnds (c .base) (x .masters) (masterIn x) (x .path) || badNeighbour (c .base) (x .entry) (x .path) (c .key) n
-
 abbrev pub finalTests : Scene → Call → List Test
 finalTests x c =
     on x (DelM ∷ []) Imdl (hasPoints (x .schema) (c .base) (x .number) (masterIn x))
     ∷ on x (AddM ∷ []) Full (addMasterFull (c .base) (x .entry) (homeOfKey x c))
     ∷ on x adds Full (isFull (c .base) (x .entry))
     ∷ on x (Sinon ∷ []) Damg (not (sound (x .schema) (c .base)))
-    ∷ on x (Readv ∷ []) Damg (readDamaged x c (forward x c))
-    ∷ on x (Readr ∷ []) Damg (readDamaged x c (backward x c))
+    ∷ on x (Readv ∷ []) Damg (readDamaged (c .base) (x .entry) (x .path) (x .masters) (masterIn x) (c .key) (isLink x c) (forward x c))
+    ∷ on x (Readr ∷ []) Damg (readDamaged (c .base) (x .entry) (x .path) (x .masters) (masterIn x) (c .key) (isLink x c) (backward x c))
     ∷ on x (AddM ∷ []) Damg (addMasterDamaged (c .base) (x .entry) (homeOfKey x c))
     ∷ on x (DelM ∷ []) Damg (delMasterDamaged (c .base) (x .entry) (homeOfKey x c) (masterIn x))
     ∷ on x adds Damg (addDamaged (c .base) (x .schema) (x .entry) (c .area) (spotOf (x .operation) (c .reference)) (x .on))

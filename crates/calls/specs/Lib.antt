@@ -1,3 +1,4 @@
+pub mod Answer
 pub mod Call
 pub mod Scene
 pub mod Ladder
@@ -7,3 +8,4 @@ pub mod Theorems
 pub mod LadderLaws
 pub mod OutcomeLaws
 pub mod BytesLaws
+pub mod RestLaws

@@ -27,6 +27,11 @@ badNeighbour b e p key n = not (eqb n 0) && not (inSet e n && isPointOf b e p ke
 abbrev pub unevenEnds : List ℕ → Entry → ℕ → Path → Bool
 unevenEnds b x m p = xor (eqb (firstOn b x m p) 0) (eqb (lastOn b x m p) 0)
 
+-- READV and READR: "first and last are one 0 and one not, tested .. on the named path .. with LKxx"; "Pointers used: READV first or next,
+-- READR last or prior"
+unfoldable pub readDamaged : List ℕ → Entry → Path → Entry → ℕ → List ℕ → Bool → ℕ → Bool
+readDamaged b e p x m key linked n = linked && unevenEnds b x m p || badNeighbour b e p key n
+
 -- "prior's side": what points forward to this place, next of the record before it or the master's first, becomes v
 abbrev pub priorSide : Entry → Path → Entry → ℕ → ℕ → ℕ → Store
 priorSide e p x m prior v = cond (eqb prior 0) (storeWord x m (p .link) v) (storeWord e prior (p .at + p .len + 4) v)

@@ -1,3 +1,5 @@
 pub mod Chains
 pub mod Points
 pub mod SideLaws
+pub mod Members
+pub mod Segments

@@ -1,0 +1,102 @@
+-- What is left of the ladder once the named master and the referenced record are known, operation by operation: each has a few of the
+-- tests, in the one order, and in the end the test of the blocks that it stores into.
+use Prim.Native.Nat.{ℕ, zero, suc, _<_}
+use mathlib.Core.Path.{_≡_, refl, ap, _∙_}
+use mathlib.Core.Bool.{Bool, true, false, cond, not, _&&_, _||_}
+use mathlib.Core.List.{List, [], _∷_, _++_}
+use lib.Dec.{eqb}
+use Rattle.octets.specs.Below.{concatBelow}
+use Rattle.terms.specs.declared.Status.{Status}
+use Rattle.terms.specs.declared.Status.the-variants.{Done, Keys, Mrnf, Imdl, Full, Damg}
+use Rattle.terms.specs.declared.Operation.the-variants.{Sinon, AddM, DelM, Readm, Writm, Rqloc, Rdnxt, Readv, Readr, Readd, Writv, Addvc, Addvb, Addva, Delvd}
+use Rattle.schema.specs.Decode.{pathOf}
+use Rattle.records.specs.Records.{keyOn}
+use Rattle.records.specs.Areas.{areaKeyOn}
+use Rattle.plans.specs.Plan.{blocksSealed}
+use Rattle.masters.specs.Find.{isFull}
+use Rattle.masters.specs.Root.{addMasterFull, addMasterDamaged, delMasterDamaged}
+use Rattle.chains.specs.Chains.{readDamaged, hasPoints}
+use Rattle.chains.specs.Points.{addDamaged, delDamaged}
+use Rattle.sound.specs.Sound.{sound}
+use Rattle.calls.specs.Call.{Call, oneOf, adds}
+use Rattle.calls.specs.Scene.{Scene}
+use Rattle.calls.specs.Ladder.{refusal, isLink, masterTests, otherStoredKey, otherMasterTests, finalTests}
+use Rattle.calls.specs.Reply.{storesOf, masterIn, homeOfKey, forward, backward, spotOf}
+use Rattle.calls.specs.LadderLaws.{Passes, refusal-passed, passes-append, passes-below}
+use Rattle.calls.specs.Answer.{firstOf, restTests}
+
+module _ (x : Scene) (c : Call) where
+  -- the last test of all: "a block to be stored into has a false check"
+  abbrev pub storable : Status
+  storable = cond (not (blocksSealed (c .base) (storesOf x c))) Damg Done
+
+  -- the other paths' masters are asked for by adds and DELVD alone
+  others-pass : oneOf (x .operation) adds ≡ false → oneOf (x .operation) (Delvd ∷ []) ≡ false → Passes (otherMasterTests x c)
+  others-pass h k =
+      passes-append (concatBelow (masterTests x c adds Mrnf (areaKeyOn (x .entry) (c .area))) (x .entry .count)) _
+      (passes-below _ (x .entry .count) (λ i l. rw h (refl, (refl, tt))))
+      (passes-below _ (x .entry .count) (λ i l. rw k (refl, (refl, tt))))
+
+  rest-short : oneOf (x .operation) adds ≡ false → oneOf (x .operation) (Delvd ∷ []) ≡ false
+      → refusal (restTests x c)
+      ≡ cond (oneOf (x .operation) (Writv ∷ []) && otherStoredKey (c .base) (x .entry) (c .reference) (c .area)) Keys (refusal (finalTests x c))
+  unfolding restTests refusal
+  rest-short h k =
+      ap (cond (oneOf (x .operation) (Writv ∷ []) && otherStoredKey (c .base) (x .entry) (c .reference) (c .area)) Keys)
+      (refusal-passed (otherMasterTests x c) (finalTests x c) (others-pass h k))
+
+  -- ---- calls that store nothing
+
+  pub rest-readm : x .operation ≡ Readm → refusal (restTests x c) ≡ Done
+  unfolding refusal storesOf blocksSealed
+  rest-readm e = rest-short (rw e refl) (rw e refl) ∙ rw e refl
+
+  pub rest-rdnxt : x .operation ≡ Rdnxt → refusal (restTests x c) ≡ Done
+  unfolding refusal storesOf blocksSealed
+  rest-rdnxt e = rest-short (rw e refl) (rw e refl) ∙ rw e refl
+
+  pub rest-rqloc : x .operation ≡ Rqloc → refusal (restTests x c) ≡ Done
+  unfolding refusal storesOf blocksSealed
+  rest-rqloc e = rest-short (rw e refl) (rw e refl) ∙ rw e refl
+
+  pub rest-readd : x .operation ≡ Readd → refusal (restTests x c) ≡ Done
+  unfolding refusal storesOf blocksSealed
+  rest-readd e = rest-short (rw e refl) (rw e refl) ∙ rw e refl
+
+  pub rest-sinon : x .operation ≡ Sinon → refusal (restTests x c) ≡ cond (not (sound (x .schema) (c .base))) Damg Done
+  unfolding refusal storesOf blocksSealed
+  rest-sinon e = rest-short (rw e refl) (rw e refl) ∙ rw e refl
+
+  pub rest-readv : x .operation ≡ Readv
+      → refusal (restTests x c) ≡ cond (readDamaged (c .base) (x .entry) (x .path) (x .masters) (masterIn x) (c .key) (isLink x c) (forward x c)) Damg Done
+  unfolding refusal storesOf blocksSealed
+  rest-readv e = rest-short (rw e refl) (rw e refl) ∙ rw e refl
+
+  pub rest-readr : x .operation ≡ Readr
+      → refusal (restTests x c) ≡ cond (readDamaged (c .base) (x .entry) (x .path) (x .masters) (masterIn x) (c .key) (isLink x c) (backward x c)) Damg Done
+  unfolding refusal storesOf blocksSealed
+  rest-readr e = rest-short (rw e refl) (rw e refl) ∙ rw e refl
+
+  -- ---- calls that store
+
+  pub rest-writm : x .operation ≡ Writm → refusal (restTests x c) ≡ storable
+  unfolding refusal
+  rest-writm e = rest-short (rw e refl) (rw e refl) ∙ rw e refl
+
+  pub rest-writv : x .operation ≡ Writv
+      → refusal (restTests x c) ≡ cond (otherStoredKey (c .base) (x .entry) (c .reference) (c .area)) Keys storable
+  unfolding refusal
+  rest-writv e = rest-short (rw e refl) (rw e refl) ∙ rw e refl
+
+  pub rest-addm : x .operation ≡ AddM
+      → refusal (restTests x c)
+      ≡ cond (addMasterFull (c .base) (x .entry) (homeOfKey x c)) Full (cond (addMasterDamaged (c .base) (x .entry) (homeOfKey x c)) Damg storable)
+  unfolding refusal
+  rest-addm e = rest-short (rw e refl) (rw e refl) ∙ rw e refl
+
+  pub rest-delm : x .operation ≡ DelM
+      → refusal (restTests x c)
+      ≡ cond (hasPoints (x .schema) (c .base) (x .number) (masterIn x)) Imdl
+        (cond (delMasterDamaged (c .base) (x .entry) (homeOfKey x c) (masterIn x)) Damg storable)
+  unfolding refusal
+  rest-delm e = rest-short (rw e refl) (rw e refl) ∙ rw e refl
