@@ -108,7 +108,7 @@ module _ (x : Scene) (c : Call) where
       ap refusal (ladder-groups x c)
       ∙ refusal-append (generalTests x c) (placeTests x c ++ (formTests x c ++ (seekTests x c ++ restTests x c))) general-refusing
       ∙ ap (firstOf (refusal (generalTests x c)))
-        (refusal-append (placeTests x c) (formTests x c ++ (seekTests x c ++ restTests x c)) place-refusing
-        ∙ ap (firstOf (refusal (placeTests x c)))
-          (refusal-append (formTests x c) (seekTests x c ++ restTests x c) form-refusing
-          ∙ ap (firstOf (refusal (formTests x c))) (refusal-append (seekTests x c) (restTests x c) seek-refusing)))
+      (refusal-append (placeTests x c) (formTests x c ++ (seekTests x c ++ restTests x c)) place-refusing
+      ∙ ap (firstOf (refusal (placeTests x c)))
+      (refusal-append (formTests x c) (seekTests x c ++ restTests x c) form-refusing
+      ∙ ap (firstOf (refusal (formTests x c))) (refusal-append (seekTests x c) (restTests x c) seek-refusing)))

@@ -97,6 +97,6 @@ module _ (x : Scene) (c : Call) where
   pub rest-delm : x .operation ≡ DelM
       → refusal (restTests x c)
       ≡ cond (hasPoints (x .schema) (c .base) (x .number) (masterIn x)) Imdl
-        (cond (delMasterDamaged (c .base) (x .entry) (homeOfKey x c) (masterIn x)) Damg storable)
+      (cond (delMasterDamaged (c .base) (x .entry) (homeOfKey x c) (masterIn x)) Damg storable)
   unfolding refusal
   rest-delm e = rest-short (rw e refl) (rw e refl) ∙ rw e refl

@@ -1,3 +1,7 @@
 pub mod Find
 pub mod Root
 pub mod FindLaws
+pub mod Walks
+pub mod WalkLaws
+pub mod Scans
+pub mod ScanLaws

@@ -1,0 +1,82 @@
+-- `commit::store_words` meets its contract. The loop's invariant: what is left of the words, stored, makes of the data base what all of
+-- them make of it at entry. Assumes nothing.
+use Prim.Native.Nat.{_-_, _≤_}
+use mathlib.Core.Path.{_≡_, sym, _∙_}
+use native.Mathlib.Omega.{arith}
+use lib.ListN.{length, drop, length-map}
+use denote.Ref.{now}
+use borrow.Author.Needs.{needs}
+use Rattle.plans.specs.Plan.{storeAll}
+use Rattle.plans.specs.Stores.{wordsOf, wordStores}
+use Rattle.commit.specs.StoreLaws.{word-inside, store-word-turn, store-words-end}
+use Rattle.commit.proofs.store_words.Statement.{statement}
+use Rattle.commit.proofs.store_words.Tie as tie
+
+abbrev Inv-loop : tie.InvT-loop
+Inv-loop base₀ p count i₀ base i = (i ≤ count) × (length base ≡ length base₀) × (storeAll base (wordStores (drop i (wordsOf p))) ≡ storeAll base₀ (wordStores (wordsOf p)))
+
+abbrev μ-loop : tie.MeasureT-loop
+μ-loop base₀ p count i₀ base i = count - i
+
+whole : (s : tie.Start Inv-loop μ-loop) → length (s .args .t2 .words) ≡ 8
+whole s = sym (length-map (s .args .t2 .words) _) ∙ s .good .1 .0 .1 .1 .1 .1 .1 .1 .0 .1 .0 .1
+
+loop-holds : tie.Need-loop-holds Inv-loop μ-loop
+loop-holds c = search needs
+
+mul-w : tie.Need-mul-w Inv-loop μ-loop
+mul-w c = search needs
+
+element-copy-out-w : tie.Need-element-copy-out-w Inv-loop μ-loop
+element-copy-out-w c = search needs
+
+cast-put-word : tie.Need-cast-put-word Inv-loop μ-loop
+cast-put-word c = search needs
+
+put-word-requires : tie.Need-put-word-requires Inv-loop μ-loop
+put-word-requires c κs =
+    let l = c .before .before .before .before in
+    let s = l .before .before in
+    rw (l .loop .inv .1) (word-inside (s .args .t2) (whole s) (s .pre .0) (length (now (s .args .base))) (l .loop .i) (s .pre .1) (omega arith))
+
+add-i : tie.Need-add-i Inv-loop μ-loop
+add-i c = search needs
+
+loop-less : tie.Need-loop-less Inv-loop μ-loop
+loop-less c = search needs
+
+loop-again : tie.Need-loop-again Inv-loop μ-loop
+loop-again c =
+    let k = c .before .before in
+    let l = k .before .before .before .before .before in
+    let s = l .before .before in (
+      omega arith,
+      k .put-word .kept .0 ∙ l .loop .inv .1,
+      rw (k .put-word .ensures) (sym (store-word-turn (s .args .t2) (whole s) (s .pre .0) (l .loop .base) (l .loop .i) (omega arith)) ∙ l .loop .inv .2),
+    )
+
+same-length : tie.Need-same-length Inv-loop μ-loop
+same-length c = search needs
+
+returns : tie.Need-returns Inv-loop μ-loop
+returns c =
+    let l = c .before in
+    let s = l .before .before in
+    sym (store-words-end (s .args .t2) (whole s) (s .pre .0) (l .loop .base) (l .loop .i) (omega arith)) ∙ l .loop .inv .2
+
+pub store-words-spec : {M : Type 1} → statement M
+store-words-spec =
+    tie.close
+    (tie.spec
+    Inv-loop
+    μ-loop
+    loop-holds
+    mul-w
+    element-copy-out-w
+    cast-put-word
+    put-word-requires
+    add-i
+    loop-less
+    loop-again
+    same-length
+    returns)

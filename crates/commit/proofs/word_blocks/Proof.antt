@@ -1,0 +1,71 @@
+-- `commit::word_blocks` meets its contract. The loop's invariant: what is left of the words adds to the blocks what all of them add to
+-- those at entry. Assumes nothing.
+use Prim.Native.Nat.{_+_, _-_, _≤_}
+use mathlib.Core.Path.{_≡_, sym, _∙_}
+use native.Mathlib.Omega.{arith}
+use lib.ListN.{length, drop, length-map}
+use Rattle.plans.specs.Stores.{wordsOf}
+use Rattle.commit.specs.Touched.{blocksOf, addAll, wordBlocks}
+use Rattle.commit.specs.TouchedLaws.{word-block-turn, word-blocks-end}
+use borrow.Author.Needs.{needs}
+use Rattle.commit.proofs.word_blocks.Statement.{statement}
+use Rattle.commit.proofs.word_blocks.Tie as tie
+
+abbrev Inv-loop : tie.InvT-loop
+Inv-loop p count s₀ i₀ s i = (i ≤ count) × (s .count ≤ s₀ .count + i) × (addAll (blocksOf s) (wordBlocks (drop i (wordsOf p))) ≡ addAll (blocksOf s₀) (wordBlocks (wordsOf p)))
+
+abbrev μ-loop : tie.MeasureT-loop
+μ-loop p count s₀ i₀ s i = count - i
+
+whole : (s : tie.Start Inv-loop μ-loop) → length (s .args .t2 .words) ≡ 8
+whole s = sym (length-map (s .args .t2 .words) _) ∙ s .good .1 .0 .1 .1 .1 .1 .1 .1 .0 .1 .0 .1
+
+loop-holds : tie.Need-loop-holds Inv-loop μ-loop
+loop-holds c = search needs
+
+mul-w : tie.Need-mul-w Inv-loop μ-loop
+mul-w c = search needs
+
+element-copy-out-w : tie.Need-element-copy-out-w Inv-loop μ-loop
+element-copy-out-w c = search needs
+
+block-at-requires : tie.Need-block-at-requires Inv-loop μ-loop
+block-at-requires c κs = search needs
+
+with-requires : tie.Need-with-requires Inv-loop μ-loop
+with-requires c κs = search needs
+
+add-i : tie.Need-add-i Inv-loop μ-loop
+add-i c = search needs
+
+loop-less : tie.Need-loop-less Inv-loop μ-loop
+loop-less c = search needs
+
+loop-again : tie.Need-loop-again Inv-loop μ-loop
+loop-again c =
+    let l = c .before .before .before .before in
+    let s = l .before in
+    let b = c .before .block-at .ensures in
+    (omega arith, omega (arith, c .with .ensures .1), rw (c .with .ensures .0, b) (sym (word-block-turn (s .args .t2) (whole s) (s .pre .0) (blocksOf (l .loop .s)) (l .loop .i) (omega arith)) ∙ l .loop .inv .2))
+
+returns : tie.Need-returns Inv-loop μ-loop
+returns c =
+    let l = c .before in
+    let s = l .before in
+    (sym (word-blocks-end (s .args .t2) (whole s) (s .pre .0) (blocksOf (l .loop .s)) (l .loop .i) (omega arith)) ∙ l .loop .inv .2, omega arith)
+
+pub word-blocks-spec : {M : Type 1} → statement M
+word-blocks-spec =
+    tie.close
+    (tie.spec
+    Inv-loop
+    μ-loop
+    loop-holds
+    mul-w
+    element-copy-out-w
+    block-at-requires
+    with-requires
+    add-i
+    loop-less
+    loop-again
+    returns)

@@ -1,0 +1,5 @@
+pub mod CommitLaws
+pub mod DistinctLaws
+pub mod StoreLaws
+pub mod Touched
+pub mod TouchedLaws

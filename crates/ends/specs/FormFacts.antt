@@ -1,0 +1,53 @@
+-- What a call knows of its parameters once their forms are right.
+use Prim.Native.Nat.{ℕ, _≤_, _<_}
+use mathlib.Core.Path.{_≡_, refl, sym, ap, _∙_}
+use mathlib.Core.Bool.{Bool, true, false, cond, not, _&&_, _||_}
+use mathlib.Core.List.{List}
+use native.Mathlib.Omega.{arith}
+use lib.Dec.{eqb, ltb}
+use lib.ListN.{length}
+use borrow.Author.Tests.{eqb-true, eq-eqb, ltb-true, ltb-false, not-false}
+use Rattle.terms.specs.declared.Status.{Status}
+use Rattle.terms.specs.declared.Status.the-variants.{Done, Area, Klen}
+use Rattle.terms.specs.declared.Operation.{Operation}
+use Rattle.terms.specs.Status.{statusNumber}
+use Rattle.schema.specs.declared.Entry.{Entry}
+use Rattle.schema.specs.declared.Schema.{Schema}
+use Rattle.schema.specs.Decode.{entryOf, setCount}
+use Rattle.schema.specs.Guarantee.{SchemaOk}
+use Rattle.records.specs.Areas.{isMaster, areaLength}
+use Rattle.forms.specs.Form.{rungsOf, formStatus}
+
+-- a test that passed, and the tests behind it
+pub passed : (b : Bool) (s u : Status) → 0 < statusNumber s → cond b s u ≡ Done → (b ≡ false) × (u ≡ Done)
+passed true s u h e = absurd (let z : statusNumber s ≡ 0 = ap statusNumber e in omega arith)
+passed false s u h e = (refl, e)
+
+-- a test that was asked and passed
+asked : (a b : Bool) → a ≡ true → (a && b) ≡ false → b ≡ false
+asked true b h e = e
+asked false b h e = absurd (let z : _≡_ {A = ℕ} 0 1 = cc in omega arith)
+
+module _ (o : Operation) (e : Entry) (on link k ref : ℕ) (key area : List ℕ) (d : formStatus o e on link k ref key area ≡ Done) where
+  -- 7
+  pub area-length : rungsOf o .area ≡ true → length area ≡ areaLength e
+  unfolding formStatus
+  area-length h =
+      eqb-true _ _ (not-false _ (asked (rungsOf o .area) _ h (passed (rungsOf o .area && not (eqb (length area) (areaLength e))) Area _ (omega arith) d .0)))
+
+  -- 8
+  pub key-length : rungsOf o .key ≡ true → length key ≡ k
+  unfolding formStatus
+  key-length h =
+      let p = passed (rungsOf o .area && not (eqb (length area) (areaLength e))) Area _ (omega arith) d in
+      eqb-true _ _ (not-false _ (asked (rungsOf o .key) _ h (passed (rungsOf o .key && not (eqb (length key) k)) Klen _ (omega arith) (p .1) .0)))
+
+-- a set of masters is one of the first
+pub among-masters : (t : Schema) (i : ℕ) → SchemaOk t → i < setCount t → isMaster (entryOf t i) ≡ true → i < t .masters
+among-masters t i ok l m = go (ltb i (t .masters)) refl
+  where
+    go : (b : Bool) → ltb i (t .masters) ≡ b → i < t .masters
+    go true h = ltb-true i (t .masters) h
+    go false h =
+        let one : entryOf t i .kind ≡ 1 = eqb-true _ _ m in
+        absurd (omega (arith, ok .variable i (ltb-false i (t .masters) h) l .kind))

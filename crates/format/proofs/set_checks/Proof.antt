@@ -1,0 +1,57 @@
+-- `format::set_checks` meets its contract. The invariant: the checks of the blocks passed are set, and nothing else is changed.
+use Prim.Native.Nat.{_*_, _-_, _≤_}
+use mathlib.Core.Path.{_≡_, refl, _∙_}
+use native.Mathlib.Omega.{arith}
+use lib.ListN.{length}
+use Rattle.plans.specs.Plan.{sealBelow}
+use Rattle.format.specs.FormatLaws.{length-zeros, seals-begin, seals-turn, seals-end}
+use borrow.Author.Needs.{needs}
+use Rattle.format.proofs.set_checks.Statement.{statement}
+use Rattle.format.proofs.set_checks.Tie as tie
+
+abbrev Inv-loop : tie.InvT-loop
+Inv-loop base₀ blocks i₀ base i = (i ≤ blocks) × (base ≡ sealBelow i base₀) × (length base ≡ length base₀)
+
+abbrev μ-loop : tie.MeasureT-loop
+μ-loop base₀ blocks i₀ base i = blocks - i
+
+loop-holds : tie.Need-loop-holds Inv-loop μ-loop
+loop-holds c = (omega arith, seals-begin _, refl)
+
+seal-requires : tie.Need-seal-requires Inv-loop μ-loop
+seal-requires c κs =
+    let s = c .before .before .before .before in
+    omega (arith, length-zeros (s .args .base .now) (s .args .blocks * 512) (s .pre))
+
+add-i : tie.Need-add-i Inv-loop μ-loop
+add-i c = search needs
+
+loop-less : tie.Need-loop-less Inv-loop μ-loop
+loop-less c = search needs
+
+loop-again : tie.Need-loop-again Inv-loop μ-loop
+loop-again c =
+    let l = c .before .before .before .before .before in
+    (omega arith, seals-turn _ _ _ (l .loop .i) (l .loop .inv .1) (c .before .before .seal .ensures), c .before .before .seal .kept .0 ∙ l .loop .inv .2)
+
+same-length : tie.Need-same-length Inv-loop μ-loop
+same-length c = c .before .loop .inv .2
+
+returns : tie.Need-returns Inv-loop μ-loop
+returns c =
+    let l = c .before in
+    seals-end _ _ _ _ (l .before .before .pre) (l .loop .inv .1) (l .loop .inv .0) (c .loop-test .left)
+
+pub set-checks-spec : {M : Type 1} → statement M
+set-checks-spec =
+    tie.close
+    (tie.spec
+    Inv-loop
+    μ-loop
+    loop-holds
+    seal-requires
+    add-i
+    loop-less
+    loop-again
+    same-length
+    returns)

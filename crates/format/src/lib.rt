@@ -1,0 +1,37 @@
+// "FORMT zeroes everything and sets the checks." What the data base held before counts for nothing, its checks neither.
+use terms::BlockNo;
+ghost use mathlib.Core.Path.{_≡_};
+ghost use Prim.Native.Nat.{_*_, _≤_};
+ghost use lib.ListN.{length};
+ghost use Rattle.octets.specs.Octets.{zeros};
+ghost use Rattle.plans.specs.Plan.{formatted};
+
+// "zeroes everything": the whole buffer at once.
+fn clear(base: &mut [u8], blocks: u32)
+    requires { ⌜ length (now base) ≡ blocks * 512 ⌝ }
+    ensures { λ _. ⌜ now (base .exit) ≡ zeros (blocks * 512) ⌝ }
+{
+    let n = base.len();
+    octets::zero(base, 0, n);
+}
+
+// "and sets the checks": block by block, of a data base that is all zero.
+fn set_checks(base: &mut [u8], blocks: u32)
+    requires { ⌜ now base ≡ zeros (blocks * 512) ⌝ }
+    ensures { λ _. ⌜ now (base .exit) ≡ formatted blocks ⌝ }
+{
+    let mut i: u32 = 0;
+    while i < blocks {
+        blocks::seal(base, BlockNo(i));
+        i += 1;
+    }
+}
+
+// The data base as FORMT leaves it.
+pub fn format(base: &mut [u8], blocks: u32)
+    requires { ⌜ (length (now base) ≡ blocks * 512) × (blocks ≤ 4096) ⌝ }
+    ensures { λ _. ⌜ now (base .exit) ≡ formatted blocks ⌝ }
+{
+    clear(base, blocks);
+    set_checks(base, blocks);
+}

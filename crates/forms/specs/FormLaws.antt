@@ -1,0 +1,197 @@
+-- The tests of the parameters and the ladder: they are its tests from Area on. And the laws by which the code asks them: a test on
+-- the area's keys is asked where the area has its length, and one answer stands for the four tests of the reference.
+use Prim.Native.Nat.{ℕ, _<_}
+use mathlib.Core.Path.{_≡_, refl}
+use mathlib.Core.Bool.{Bool, true, false, cond, not, _&&_, _||_}
+use mathlib.Core.List.{List, _++_}
+use lib.Dec.{eqb, leb, ltb}
+use lib.ListN.{length}
+use borrow.Author.Tests.{ltb-true, not-false}
+use Rattle.octets.specs.Octets.{allBlank, sameBytes}
+use Rattle.octets.specs.Below.{allBelow}
+use Rattle.octets.specs.BelowLaws.{never-both, allBelow-fails}
+use Rattle.terms.specs.Terms.{endRef}
+use Rattle.terms.specs.declared.Status.{Status}
+use Rattle.terms.specs.declared.Status.the-variants.{Done, Area, Klen, Bctl, Keys, Ivrp}
+use Rattle.terms.specs.declared.Operation.{Operation}
+use Rattle.terms.specs.declared.Operation.the-variants.{Formt, Sinon, AddM, DelM, Readm, Writm, Rqloc, Rdnxt, Readv, Readr, Readd, Writv, Addvc, Addvb, Addva, Delvd, Unknown}
+use Rattle.schema.specs.declared.Entry.{Entry}
+use Rattle.schema.specs.Place.{inSet}
+use Rattle.schema.specs.Decode.{pathOf}
+use Rattle.records.specs.Records.{keyOn}
+use Rattle.records.specs.Areas.{isMaster, areaLength, areaMasterKey, areaKeyOn}
+use Rattle.calls.specs.Call.{Call, oneOf, variableCalls}
+use Rattle.calls.specs.Scene.{Scene}
+use Rattle.calls.specs.Reply.{linkOf}
+use Rattle.calls.specs.Answer.{placeTests, formTests}
+use Rattle.calls.specs.Ladder.{refusal, wrongKind, blankAreaKey, otherAreaKey, otherStoredKey, parameterTests}
+use Rattle.forms.specs.declared.Rungs.{Rungs}
+use Rattle.forms.specs.Form.{rungsOf, referenceStatus, formStatus}
+
+-- ---- the ladder
+
+pub parameter-tests : (x : Scene) (c : Call) → parameterTests x c ≡ placeTests x c ++ formTests x c
+parameter-tests x c = refl
+
+pub form-tests : (x : Scene) (c : Call)
+    → refusal (formTests x c) ≡ formStatus (x .operation) (x .entry) (x .on) (linkOf (x .path)) (x .masters .key) (c .reference) (c .key) (c .area)
+unfolding refusal formStatus
+form-tests x c = refl
+
+-- ---- what a call without a path's name need not know
+
+module _ (o : Operation) (e : Entry) (k ref : ℕ) (key area : List ℕ) where
+  -- LKxx, where no reference may be one
+  pub form-link : (on l m : ℕ) → rungsOf o .link ≡ false → formStatus o e on l k ref key area ≡ formStatus o e on m k ref key area
+  unfolding formStatus
+  form-link on l m h = rw h refl
+
+  -- the path's number, in a master set, and where no key of the area is compared with the control key
+  pub form-on : (i j link : ℕ) → isMaster e ≡ true → formStatus o e i link k ref key area ≡ formStatus o e j link k ref key area
+  unfolding formStatus otherAreaKey
+  form-on i j link h = rw h refl
+
+  pub form-on-unasked : (i j link : ℕ) → rungsOf o .same ≡ false → formStatus o e i link k ref key area ≡ formStatus o e j link k ref key area
+  unfolding formStatus
+  form-on-unasked i j link h = rw h refl
+
+-- who has passed the tests of kind and path and compares a variable's key has a path of the set
+pub on-path : (o : Operation) (e : Entry) (on : ℕ) → wrongKind o e ≡ false → (oneOf o variableCalls && not (ltb on (e .count))) ≡ false
+    → isMaster e ≡ false → rungsOf o .same ≡ true → on < e .count
+unfolding wrongKind
+on-path AddM e on k p v h = absurd (never-both true refl (rw v at k))
+on-path Writm e on k p v h = absurd (never-both true refl (rw v at k))
+on-path Addvc e on k p v h = ltb-true on (e .count) (not-false (ltb on (e .count)) p)
+on-path Addvb e on k p v h = ltb-true on (e .count) (not-false (ltb on (e .count)) p)
+on-path Addva e on k p v h = ltb-true on (e .count) (not-false (ltb on (e .count)) p)
+on-path Formt e on k p v h = absurd (never-both false h refl)
+on-path Sinon e on k p v h = absurd (never-both false h refl)
+on-path DelM e on k p v h = absurd (never-both false h refl)
+on-path Readm e on k p v h = absurd (never-both false h refl)
+on-path Rqloc e on k p v h = absurd (never-both false h refl)
+on-path Rdnxt e on k p v h = absurd (never-both false h refl)
+on-path Readv e on k p v h = absurd (never-both false h refl)
+on-path Readr e on k p v h = absurd (never-both false h refl)
+on-path Readd e on k p v h = absurd (never-both false h refl)
+on-path Writv e on k p v h = absurd (never-both false h refl)
+on-path Delvd e on k p v h = absurd (never-both false h refl)
+on-path Unknown e on k p v h = absurd (never-both false h refl)
+
+-- ---- how the code asks
+
+-- who tests the area's keys has tested the area's length
+pub asks-area : (o : Operation) → (rungsOf o .area || not (rungsOf o .blank || rungsOf o .same)) ≡ true
+asks-area Formt = refl
+asks-area Sinon = refl
+asks-area AddM = refl
+asks-area DelM = refl
+asks-area Readm = refl
+asks-area Writm = refl
+asks-area Rqloc = refl
+asks-area Rdnxt = refl
+asks-area Readv = refl
+asks-area Readr = refl
+asks-area Readd = refl
+asks-area Writv = refl
+asks-area Addvc = refl
+asks-area Addvb = refl
+asks-area Addva = refl
+asks-area Delvd = refl
+asks-area Unknown = refl
+
+-- the answers of the tests, the first that refuses deciding
+abbrev pub decided : Bool → Bool → Bool → Bool → Bool → Bool → Status
+decided area length control blank other reference =
+    cond area Area (cond length Klen (cond control Bctl (cond blank Bctl (cond other Keys (cond reference Ivrp Done)))))
+
+-- the four tests of the reference in one
+abbrev pub wrongReference : Rungs → Entry → ℕ → ℕ → Bool
+wrongReference q e link ref =
+    q .link && not (eqb ref link || inSet e ref) || (q .sweep && not (leb ref (e .records)) || (q .last && eqb ref endRef || q .number && not (inSet e ref)))
+
+-- a test that is not asked, and one that is
+pub not-asked : (b x : Bool) → b ≡ false → false ≡ (b && x)
+not-asked b x h = rw h refl
+
+pub is-asked : (b x r : Bool) → b ≡ true → r ≡ x → r ≡ (b && x)
+is-asked b x r h k = rw h k
+
+-- ---- the keys of an area, by the kind of its set
+
+module _ (e : Entry) (area : List ℕ) where
+  pub blank-master : isMaster e ≡ true → blankAreaKey e area ≡ allBlank (areaMasterKey e area)
+  unfolding blankAreaKey
+  blank-master m = rw m refl
+
+  pub other-master : (on : ℕ) (key : List ℕ) → isMaster e ≡ true → otherAreaKey e on key area ≡ not (sameBytes (areaMasterKey e area) key)
+  unfolding otherAreaKey
+  other-master on key m = rw m refl
+
+  pub other-path : (on : ℕ) (key : List ℕ) → isMaster e ≡ false → otherAreaKey e on key area ≡ not (sameBytes (areaKeyOn e area on) key)
+  unfolding otherAreaKey
+  other-path on key v = rw v refl
+
+-- ---- the keys of an area, path by path
+
+module _ (e : Entry) (area : List ℕ) where
+  abbrev pub notBlank : ℕ → Bool
+  notBlank k = not (allBlank (areaKeyOn e area k))
+
+  pub blank-found : isMaster e ≡ false → (j : ℕ) → j < e .count → allBlank (areaKeyOn e area j) ≡ true → blankAreaKey e area ≡ true
+  unfolding blankAreaKey
+  blank-found v j l h = rw (v, allBelow-fails notBlank (e .count) j l (rw h refl)) refl
+
+  pub blank-none : isMaster e ≡ false → allBelow notBlank (e .count) ≡ true → blankAreaKey e area ≡ false
+  unfolding blankAreaKey
+  blank-none v h = rw (v, h) refl
+
+module _ (b : List ℕ) (e : Entry) (r : ℕ) (area : List ℕ) where
+  abbrev pub sameStored : ℕ → Bool
+  sameStored k = sameBytes (areaKeyOn e area k) (keyOn b e r (pathOf e k))
+
+  pub other-found : (j : ℕ) → j < e .count → sameStored j ≡ false → otherStoredKey b e r area ≡ true
+  unfolding otherStoredKey
+  other-found j l h = rw (allBelow-fails sameStored (e .count) j l h) refl
+
+  pub other-none : allBelow sameStored (e .count) ≡ true → otherStoredKey b e r area ≡ false
+  unfolding otherStoredKey
+  other-none h = rw h refl
+
+-- ---- the answers put together
+
+either : (a b : Bool) (s t : Status) → cond (a || b) s t ≡ cond a s (cond b s t)
+either true b s t = refl
+either false b s t = refl
+
+-- a test of the area's keys may wait for an area that has its length: behind the test of the length it makes no difference
+waits : (ar ft bl sm : Bool) (kl kb x y : Bool) (r : Status) → (ar || not (bl || sm)) ≡ true
+    → cond (ar && not ft) Area (cond kl Klen (cond kb Bctl (cond ((bl && ft) && x) Bctl (cond ((sm && ft) && y) Keys r))))
+    ≡ cond (ar && not ft) Area (cond kl Klen (cond kb Bctl (cond (bl && x) Bctl (cond (sm && y) Keys r))))
+waits true true true true kl kb x y r h = refl
+waits true true true false kl kb x y r h = refl
+waits true true false true kl kb x y r h = refl
+waits true true false false kl kb x y r h = refl
+waits true false bl sm kl kb x y r h = refl
+waits false ft true sm kl kb x y r h = cc
+waits false ft false true kl kb x y r h = cc
+waits false ft false false kl kb x y r h = refl
+
+-- the four tests of the reference in one answer
+by-reference : (q : Rungs) (e : Entry) (link ref : ℕ) → cond (wrongReference q e link ref) Ivrp Done ≡ referenceStatus q e link ref
+by-reference q e link ref = rw (either, either, either) refl
+
+pub form-decided : (o : Operation) (e : Entry) (on link k ref : ℕ) (key area : List ℕ)
+    → decided
+    (rungsOf o .area && not (eqb (length area) (areaLength e)))
+    (rungsOf o .key && not (eqb (length key) k))
+    (rungsOf o .key && allBlank key)
+    ((rungsOf o .blank && eqb (length area) (areaLength e)) && blankAreaKey e area)
+    ((rungsOf o .same && eqb (length area) (areaLength e)) && otherAreaKey e on key area)
+    (wrongReference (rungsOf o) e link ref)
+    ≡ formStatus o e on link k ref key area
+unfolding formStatus
+form-decided o e on link k ref key area =
+    let q = rungsOf o in
+    rw (by-reference q e link ref)
+    (waits (q .area) (eqb (length area) (areaLength e)) (q .blank) (q .same) (q .key && not (eqb (length key) k)) (q .key && allBlank key)
+    (blankAreaKey e area) (otherAreaKey e on key area) (referenceStatus q e link ref) (asks-area o))

@@ -1,0 +1,16 @@
+-- `masters::scan::lowest_free` meets its contract: the scan for a free record from the first on. Assumes nothing.
+use native.Mathlib.Nat.{sub-zero}
+use borrow.Author.Needs.{needs}
+use Rattle.masters.specs.Find.{lowestFree}
+use Rattle.masters.proofs.scan.lowest_free.Statement.{statement}
+use Rattle.masters.proofs.scan.lowest_free.Tie as tie
+
+scan-requires : tie.Need-scan-requires
+scan-requires c κs = search needs
+
+returns : tie.Need-returns
+unfolding lowestFree
+returns c = rw (sub-zero (c .before .before .args .e .records)) at (c .scan .ensures)
+
+pub lowest-free-spec : {M : Type 1} → statement M
+lowest-free-spec = tie.close (tie.spec scan-requires returns)

@@ -1,0 +1,67 @@
+-- `names::is_named` meets its contract: a name of another length or of another master is not the path's, and then LKxx decides.
+use Prim.Native.Nat.{_<_}
+use mathlib.Core.Path.{_≡_, sym, ap, _∙_}
+use denote.Ref.{now}
+use Rattle.schema.specs.declared.Entry.{Entry}
+use Rattle.schema.specs.Decode.{entryOf}
+use Rattle.names.specs.NameLaws.{other-length, other-master, by-link}
+use borrow.Author.Needs.{needs}
+use Rattle.names.proofs.is_named.Statement.{statement}
+use Rattle.names.proofs.is_named.Tie as tie
+
+returns : tie.Need-returns
+returns c =
+    let s = c .before .before in
+    sym (other-length _ (s .args .t2 .letters) (now (s .args .name)) (s .pre .letters) (c .if1 .taken))
+
+entry-of-requires : tie.Need-entry-of-requires
+entry-of-requires c κs = search needs
+
+word-requires : tie.Need-word-requires
+word-requires c κs = search needs
+
+returns-2 : tie.Need-returns-2
+returns-2 c =
+    let x = c .before .before in
+    let s = x .before .before .before .before in
+    let l : x .entry-of .result .name < 4294967296 = search needs in
+    sym (rw (x .entry-of .ensures) at
+    (other-master (x .entry-of .result .name) (s .args .t2 .letters) (now (s .args .name)) l (λ e. c .if2 .taken (e ∙ sym (c .before .word .ensures)))))
+
+element-copy-out-a : tie.Need-element-copy-out-a
+element-copy-out-a c = search needs
+
+element-copy-out-b : tie.Need-element-copy-out-b
+element-copy-out-b c = search needs
+
+word-requires-2 : tie.Need-word-requires-2
+word-requires-2 c κs = search needs
+
+link-of-requires : tie.Need-link-of-requires
+link-of-requires c κs = search needs
+
+returns-3 : tie.Need-returns-3
+returns-3 c =
+    let d = c .before .before .before .before in
+    let x = d .before .before in
+    let h = x .before .before .before in
+    let a = h .before .args in
+    let l = c .link-of .ensures in
+    let e : x .entry-of .result .name ≡ entryOf (a .t) (a .t2 .master .0) .name = ap (λ (y : Entry). y .name) (x .entry-of .ensures) in
+    let m = sym e ∙ d .if2 .left ∙ d .before .word .ensures in
+    rw (c .before .word2 .ensures, l .0)
+    (by-link _ (a .t2 .letters) (now (a .name)) (h .before .pre .letters) (x .before .before .if1 .left) (λ i. h .shared-slice-known .given i .fits) m (l .1) (l .2))
+
+pub is-named-spec : {M : Type 1} → statement M
+is-named-spec =
+    tie.close
+    (tie.spec
+    returns
+    entry-of-requires
+    word-requires
+    returns-2
+    element-copy-out-a
+    element-copy-out-b
+    word-requires-2
+    link-of-requires
+    returns-3)

@@ -1,0 +1,3 @@
+pub mod Masters
+pub mod MasterLaws
+pub mod CallLaws

@@ -1,0 +1,84 @@
+-- Calls on masters: what they have found out when their set is known, and when their master is.
+use Prim.Native.Nat.{ℕ, _+_, _*_, _≤_, _<_}
+use mathlib.Core.Path.{_≡_, refl, sym, ap, _∙_}
+use mathlib.Core.Bool.{Bool, true, false, cond, not, _&&_, _||_}
+use mathlib.Core.List.{List, [], _∷_}
+use native.Mathlib.Omega.{arith}
+use lib.Dec.{eqb, ltb}
+use lib.ListN.{length}
+use borrow.Author.Tests.{eqb-true, ne-eqb, eq-eqb, lt-ltb, le-ltb, not-false}
+use Rattle.terms.specs.declared.Status.{Status}
+use Rattle.terms.specs.declared.Status.the-variants.{Done, Fntf, Kind, Mrnf, Damg}
+use Rattle.terms.specs.declared.Operation.{Operation}
+use Rattle.terms.specs.declared.Operation.the-variants.{Formt, Sinon, AddM, DelM, Readm, Writm, Rqloc, Readv, Readr}
+use Rattle.terms.specs.Status.{statusNumber}
+use Rattle.terms.specs.Operation.{operationOf}
+use Rattle.schema.specs.declared.Entry.{Entry}
+use Rattle.schema.specs.declared.Schema.{Schema}
+use Rattle.schema.specs.Decode.{entryOf}
+use Rattle.schema.specs.Place.{LiesIn}
+use Rattle.schema.specs.Guarantee.{MasterOk}
+use Rattle.areas.specs.AreaLaws.{Fields}
+use Rattle.records.specs.Areas.{isMaster, areaLength}
+use Rattle.masters.specs.declared.Found.{Found}
+use Rattle.masters.specs.declared.Found.the-variants.{At, Missing, Damaged}
+use Rattle.masters.specs.Find.{find, isMissing, isDamaged}
+use Rattle.calls.specs.Call.{Call, oneOf, masterCalls, variableCalls}
+use Rattle.calls.specs.Scene.{Scene, sceneUnder, setNamed}
+use Rattle.calls.specs.Ladder.{refusal, wrongKind, finders}
+use Rattle.calls.specs.Answer.{firstOf, placeTests, formTests, seekTests}
+use Rattle.forms.specs.Form.{rungsOf, formStatus}
+use Rattle.onmasters.specs.declared.Placed.{Placed}
+use Rattle.ends.specs.Ends.{Ends}
+use Rattle.ends.specs.Asks.{Asks, placedStatus, placedOutcome}
+
+-- ---- which operations
+
+-- a call on masters: the tests that it has and those that it has not
+pub record MasterCall (o : Operation) : Type 0 where
+  pub on-set : oneOf o (Formt ∷ Sinon ∷ []) ≡ false
+  pub of-masters : oneOf o masterCalls ≡ true
+  pub of-no-path : oneOf o variableCalls ≡ false
+  pub of-no-link : rungsOf o .link ≡ false
+  pub of-a-key : rungsOf o .key ≡ true
+
+-- one that asks for its master
+pub record NamedCall (o : Operation) : Type 0 where
+  pub call : MasterCall o
+  pub finds : oneOf o finders ≡ true
+  pub needs-it : oneOf o (DelM ∷ Readm ∷ Writm ∷ variableCalls) ≡ true
+  pub adds-none : oneOf o (AddM ∷ []) ≡ false
+  pub of-no-number : rungsOf o .number ≡ false
+
+-- ---- what is known
+
+-- of the set: it is the schema's n-th, one of masters, and the parameters have its lengths
+pub record SetKnown (t : Schema) (o : Operation) (k a : List ℕ) (n : ℕ) (e : Entry) : Type 0 where
+  pub among : n < t .masters
+  pub here : e ≡ entryOf t n
+  pub key : length k ≡ e .key
+  pub area : rungsOf o .area ≡ true → length a ≡ areaLength e
+
+-- the call's scene is on this set
+pub record OnSet (t : Schema) (c : Call) (n : ℕ) (e : Entry) : Type 0 where
+  pub number : sceneUnder t c .number ≡ n
+  pub entry : sceneUnder t c .entry ≡ e
+  pub masters : sceneUnder t c .masters ≡ e
+
+-- what every call that asks with these parameters has come to
+pub record Places (t : Schema) (o : Operation) (n : List ℕ) (r : ℕ) (k a : List ℕ) (p : Placed) : Type 0 where
+  pub status : (c : Call) → Asks c o n r k a (c .base) → p .status ≡ placedStatus t c
+  pub on-set : p .status ≡ Done → (c : Call) → Asks c o n r k a (c .base) → OnSet t c (p .number .0) (p .entry)
+  pub known : p .status ≡ Done → SetKnown t o k a (p .number .0) (p .entry)
+
+-- a set of masters in a base of n bytes
+pub record MasterIn (e : Entry) (n : ℕ) : Type 0 where
+  pub lies : LiesIn e n
+  pub fields : Fields e
+  pub ok : MasterOk e
+  pub some : 1 ≤ e .records
+  pub sized : 12 ≤ e .size
+
+-- every call on this set comes to this, whatever the schema
+pub record AnswersOn (o : Operation) (e : Entry) (r : ℕ) (k a b : List ℕ) (s : Status) (q : ℕ) (new after : List ℕ) : Type 0 where
+  pub told : (t : Schema) (c : Call) (n : ℕ) → Asks c o (c .name) r k a b → OnSet t c n e → Ends (placedOutcome t c) s q new after

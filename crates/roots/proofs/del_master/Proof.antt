@@ -1,0 +1,46 @@
+-- `roots::del_master` meets its contract: 14 comes first, then the final 16. Assumes nothing.
+use mathlib.Core.Path.{sym, _∙_}
+use mathlib.Core.Logic.{inl}
+use native.Mathlib.Omega.{arith}
+use denote.Ref.{now}
+use Rattle.schema.specs.GuaranteeLaws.{lies}
+use Rattle.roots.specs.TestLaws.{not-done}
+use Rattle.roots.specs.DelLaws.{del-points, del-no-points}
+use borrow.Author.Needs.{needs}
+use Rattle.roots.proofs.del_master.Statement.{statement}
+use Rattle.roots.proofs.del_master.Tie as tie
+
+has-points-requires : tie.Need-has-points-requires
+has-points-requires c κs = search needs
+
+refused-requires : tie.Need-refused-requires
+refused-requires c κs = search needs
+
+returns : tie.Need-returns
+returns c =
+    let k = c .before .before in
+    let a = k .before .before .args in
+    let p = sym (k .has-points .ensures) ∙ c .before .if1 .taken in
+    (c .refused .ensures ∙ del-points (now (a .base)) (a .e) (a .h .0) (a .r .0) (a .t) (a .n .0) p, not-done (inl (c .refused .ensures)))
+
+del-unpointed-requires : tie.Need-del-unpointed-requires
+del-unpointed-requires c κs =
+    let s = c .before .before .before in
+    let ok = s .pre .0 in
+    let e = s .pre .1 .1 .1 .0 in (
+      rw e (lies (s .args .n .0) ok (omega arith) (s .pre .1 .0)),
+      (rw e (ok .master (s .args .n .0) (s .pre .1 .1 .0)), (s .pre .1 .1 .1 .1 .0, s .pre .1 .1 .1 .1 .1)),
+    )
+
+returns-2 : tie.Need-returns-2
+returns-2 c =
+    let k = c .before .before in
+    let a = k .before .before .args in
+    let p = sym (k .has-points .ensures) ∙ c .before .if1 .left in
+    let w = c .del-unpointed .ensures in
+    (w .0 ∙ del-no-points (now (a .base)) (a .e) (a .h .0) (a .r .0) (a .t) (a .n .0) p, λ d. let z = w .1 d in (z .stores, z .ok))
+
+pub del-master-spec : {M : Type 1} → statement M
+del-master-spec =
+    tie.close
+    (tie.spec has-points-requires refused-requires returns del-unpointed-requires returns-2)

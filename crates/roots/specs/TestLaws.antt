@@ -1,0 +1,52 @@
+-- The tests that ADD-M and DEL-M share, and what they say.
+use Prim.Native.Nat.{ℕ, _≤_, _<_}
+use mathlib.Core.Path.{_≡_, refl, _∙_}
+use mathlib.Core.Logic.{_⊎_, inl, inr}
+use mathlib.Core.Bool.{Bool, true, false, not, _&&_, _||_}
+use mathlib.Core.List.{List}
+use native.Mathlib.Omega.{arith}
+use lib.Dec.{eqb}
+use borrow.Author.Tests.{eqb-true, eq-eqb, ne-eqb, le-leb, lt-leb}
+use Rattle.terms.specs.declared.Status.{Status}
+use Rattle.terms.specs.declared.Status.the-variants.{Done, Imdl, Full, Damg}
+use Rattle.schema.specs.declared.Entry.{Entry}
+use Rattle.schema.specs.Place.{InSet, inSet}
+use Rattle.records.specs.Records.{isLive}
+use Rattle.plans.specs.declared.Plan.{Plan}
+use Rattle.plans.specs.Plan.{Store}
+use Rattle.masters.specs.FindLaws.{inSet-true}
+use Rattle.masters.specs.Root.{badRoot}
+use Rattle.roots.specs.Shape.{Stands}
+
+pub or-false : (s t : Bool) → (s || t) ≡ false → (s ≡ false) × (t ≡ false)
+or-false false t h = (refl, h)
+or-false true t h = absurd (let z : _≡_ {A = ℕ} 0 1 = cc in omega arith)
+
+-- a refusal is not done
+pub not-done : {A : Type 0} {s : Status} → (s ≡ Imdl) ⊎ (s ≡ Full) ⊎ (s ≡ Damg) → s ≡ Done → A
+not-done (inl h) d = absurd (let z : _≡_ {A = ℕ} 0 1 = cc in omega arith)
+not-done (inr (inl h)) d = absurd (let z : _≡_ {A = ℕ} 0 1 = cc in omega arith)
+not-done (inr (inr h)) d = absurd (let z : _≡_ {A = ℕ} 0 1 = cc in omega arith)
+
+module _ (b : List ℕ) (e : Entry) (p : ℕ) where
+  pub bad-none : p ≡ 0 → false ≡ badRoot b e p
+  bad-none h = rw (eq-eqb p 0 h)
+
+  pub bad-above : e .records < p → true ≡ badRoot b e p
+  bad-above l = rw (ne-eqb p 0 (λ z. omega arith), le-leb 1 p (omega arith), lt-leb p (e .records) l)
+
+  pub bad-live : {t : Bool} → InSet e p → t ≡ isLive b e p → not t ≡ badRoot b e p
+  bad-live i h = rw (ne-eqb p 0 (λ z. omega arith), le-leb 1 p (i .0), le-leb p (e .records) (i .1), h)
+
+  -- a pointer that is not bad is 0 or a record of the set
+  pub not-bad : badRoot b e p ≡ false → p ≤ e .records
+  not-bad h = by (eqb p 0) (inSet e p) (isLive b e p) refl refl h
+    where
+      by : (z s l : Bool) → eqb p 0 ≡ z → inSet e p ≡ s → (not z && not (s && l)) ≡ false → p ≤ e .records
+      by true s l k i h = let q = eqb-true p 0 k in omega arith
+      by false true l k i h = inSet-true e p i .1
+      by false false l k i h = absurd (let z : _≡_ {A = ℕ} 0 1 = cc in omega arith)
+
+-- what a plan stores may be said in another way
+pub stands-as : {b : List ℕ} {e : Entry} {p : Plan} {f g : List ℕ → List Store} → Stands b e p f → ((area : List ℕ) → f area ≡ g area) → Stands b e p g
+stands-as s h = record { stores = λ area. s .stores area ∙ h area; ok = s .ok }

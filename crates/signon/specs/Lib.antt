@@ -1,0 +1,4 @@
+pub mod Facts
+pub mod HomeLaws
+pub mod PointLaws
+pub mod SignOnLaws
