@@ -1,5 +1,8 @@
 //! Builds the driver that calls the C entries, as a program of its own: the
 //! proved library is for x86-64, and this machine may be another.
+//!
+//! Where the library is missing there is no driver, and whoever starts it is
+//! told so: the tests of other packages need not wait.
 
 use std::env;
 use std::path::Path;
@@ -15,18 +18,18 @@ fn main() {
         println!("cargo:rerun-if-changed={}", file.display());
     }
     println!("cargo:rerun-if-changed=build.rs");
-    assert!(
-        library.exists(),
-        "`rt staticlib probes`, run at the repository root, comes first"
+    println!(
+        "cargo:rustc-env=RUN_X86={}",
+        repository.join("tools/run-x86").display()
     );
+    if !library.exists() {
+        println!("cargo:rustc-env=DRIVER=");
+        return;
+    }
     let built = Command::new(repository.join("tools/cc-x86"))
         .args([&driver, &source, &library])
         .status()
         .expect("the compiler's script starts");
     assert!(built.success(), "the driver was not built");
     println!("cargo:rustc-env=DRIVER={}", driver.display());
-    println!(
-        "cargo:rustc-env=RUN_X86={}",
-        repository.join("tools/run-x86").display()
-    );
 }

@@ -18,6 +18,20 @@ pub record Call : Type 0 where
   pub schema : List ℕ
   pub base : List ℕ
 
+-- the call of these parameters, in document 01's order
+abbrev pub callOf : List ℕ → List ℕ → ℕ → List ℕ → List ℕ → List ℕ → List ℕ → List ℕ → Call
+callOf operation name reference path key area schema base =
+    record {
+      operation = operation;
+      name = name;
+      reference = reference;
+      path = path;
+      key = key;
+      area = area;
+      schema = schema;
+      base = base;
+    }
+
 -- "It returns status and reference.", and it leaves an area and a data base
 pub record Outcome : Type 0 where
   pub status : Status

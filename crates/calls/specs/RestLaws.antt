@@ -8,7 +8,7 @@ use lib.Dec.{eqb}
 use Rattle.octets.specs.Below.{concatBelow}
 use Rattle.terms.specs.declared.Status.{Status}
 use Rattle.terms.specs.declared.Status.the-variants.{Done, Keys, Mrnf, Imdl, Full, Damg}
-use Rattle.terms.specs.declared.Operation.the-variants.{Sinon, AddM, DelM, Readm, Writm, Rqloc, Rdnxt, Readv, Readr, Readd, Writv, Addvc, Addvb, Addva, Delvd}
+use Rattle.terms.specs.declared.Operation.the-variants.{Formt, Sinon, AddM, DelM, Readm, Writm, Rqloc, Rdnxt, Readv, Readr, Readd, Writv, Addvc, Addvb, Addva, Delvd}
 use Rattle.schema.specs.Decode.{pathOf}
 use Rattle.records.specs.Records.{keyOn}
 use Rattle.records.specs.Areas.{areaKeyOn}
@@ -62,6 +62,10 @@ module _ (x : Scene) (c : Call) where
   pub rest-readd : x .operation ≡ Readd → refusal (restTests x c) ≡ Done
   unfolding refusal storesOf blocksSealed
   rest-readd e = rest-short (rw e refl) (rw e refl) ∙ rw e refl
+
+  pub rest-formt : x .operation ≡ Formt → refusal (restTests x c) ≡ Done
+  unfolding refusal storesOf blocksSealed
+  rest-formt e = rest-short (rw e refl) (rw e refl) ∙ rw e refl
 
   pub rest-sinon : x .operation ≡ Sinon → refusal (restTests x c) ≡ cond (not (sound (x .schema) (c .base))) Damg Done
   unfolding refusal storesOf blocksSealed

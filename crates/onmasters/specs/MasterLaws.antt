@@ -1,16 +1,15 @@
 -- Calls on masters, step by step down the ladder: the set, the forms of the parameters, the master.
-use Prim.Native.Nat.{ℕ, _+_, _*_, _≤_, _<_}
+use Prim.Native.Nat.{ℕ, _≤_, _<_}
 use mathlib.Core.Path.{_≡_, refl, sym, ap, _∙_}
-use mathlib.Core.Bool.{Bool, true, false, cond, not, _&&_, _||_}
-use mathlib.Core.List.{List, [], _∷_}
+use mathlib.Core.Bool.{Bool, true, false, cond, not, _||_}
+use mathlib.Core.List.{List}
 use native.Mathlib.Omega.{arith}
-use lib.Dec.{eqb, ltb}
-use lib.ListN.{length}
-use borrow.Author.Tests.{eqb-true, ne-eqb, eq-eqb, lt-ltb, le-ltb, not-false}
+use lib.Dec.{ltb}
+use borrow.Author.Tests.{lt-ltb, le-ltb}
 use Rattle.terms.specs.declared.Status.{Status}
-use Rattle.terms.specs.declared.Status.the-variants.{Done, Fntf, Kind, Mrnf, Damg}
+use Rattle.terms.specs.declared.Status.the-variants.{Done, Fntf, Kind, Mrnf, Dupm, Damg}
 use Rattle.terms.specs.declared.Operation.{Operation}
-use Rattle.terms.specs.declared.Operation.the-variants.{Readm}
+use Rattle.terms.specs.declared.Operation.the-variants.{AddM, DelM, Readm, Writm, Rqloc}
 use Rattle.terms.specs.declared.RecordNo.{RecordNo}
 use Rattle.terms.specs.Status.{statusNumber}
 use Rattle.terms.specs.Operation.{operationOf}
@@ -18,22 +17,23 @@ use Rattle.schema.specs.declared.Entry.{Entry}
 use Rattle.schema.specs.declared.Schema.{Schema}
 use Rattle.schema.specs.Decode.{entryOf, setCount}
 use Rattle.schema.specs.Guarantee.{SchemaOk}
+use Rattle.schema.specs.GuaranteeLaws.{lies}
 use Rattle.records.specs.Areas.{isMaster}
 use Rattle.masters.specs.declared.Found.{Found}
 use Rattle.masters.specs.declared.Found.the-variants.{At, Missing, Damaged}
-use Rattle.masters.specs.Find.{find, isMissing, isDamaged}
+use Rattle.masters.specs.Find.{find, isAt, isMissing, isDamaged}
 use Rattle.calls.specs.Call.{Call, Outcome}
-use Rattle.calls.specs.Scene.{Scene, sceneUnder, setNamed}
+use Rattle.calls.specs.Scene.{sceneUnder, setNamed}
 use Rattle.calls.specs.Ladder.{refusal, wrongKind}
 use Rattle.calls.specs.Reply.{linkOf}
-use Rattle.calls.specs.Answer.{firstOf, answered, placeTests, formTests, seekTests, restTests}
-use Rattle.forms.specs.Form.{rungsOf, formStatus}
+use Rattle.calls.specs.Answer.{answered, placeTests, formTests, seekTests, restTests}
+use Rattle.forms.specs.Form.{formStatus}
 use Rattle.forms.specs.FormLaws.{form-tests, form-link, form-on}
 use Rattle.onmasters.specs.declared.Placed.{Placed}
 use Rattle.ends.specs.FormFacts.{key-length, area-length, among-masters}
-use Rattle.ends.specs.Asks.{Asks, placedStatus, placedOutcome}
-use Rattle.ends.specs.Ends.{Ends, refused-ends}
-use Rattle.onmasters.specs.Masters.{MasterCall, NamedCall, SetKnown, OnSet, Places}
+use Rattle.ends.specs.Asks.{Laid, Asks, placedOutcome}
+use Rattle.ends.specs.Ends.{Ends, not-done, refused-ends}
+use Rattle.onmasters.specs.Masters.{MasterCall, NamedCall, MasterIn, OnSet, Places}
 
 or-none : (b : Bool) (s t : Status) → cond (b || false) s t ≡ cond b s t
 or-none true s t = refl
@@ -125,11 +125,22 @@ module _ (t : Schema) (o : Operation) (n : List ℕ) (r : ℕ) (key area : List 
             masters = masters-here t c o k (h .operation) ∙ (rw (h .name, ← at) refl);
           })
 
+-- a set of masters of the schema, in a base of its length
+pub master-in : (t : Schema) (i n : ℕ) (e : Entry) → Laid t n → i < t .masters → e ≡ entryOf t i → MasterIn e n
+master-in t i n e h l w =
+    let set = h .ok .set i (omega arith) in
+    let one = h .ok .master i l in
+    rw w (record { lies = lies i (h .ok) (omega arith) (h .size); fields = h .fields i (omega arith); ok = one; some = set .some; sized = omega (arith, set .sized, one .room) })
+
 -- ---- the master
 
 pub found-here : (t : Schema) (c : Call) → sceneUnder t c .found ≡ find (c .base) (sceneUnder t c .masters) (c .key)
 unfolding sceneUnder
 found-here t c = refl
+
+pub schema-here : (t : Schema) (c : Call) → sceneUnder t c .schema ≡ t
+unfolding sceneUnder
+schema-here t c = refl
 
 pub operation-here : (t : Schema) (c : Call) → sceneUnder t c .operation ≡ operationOf (c .operation)
 unfolding sceneUnder
@@ -146,29 +157,75 @@ module _ (t : Schema) (c : Call) (o : Operation) (k : NamedCall o) (q : operatio
 pub readm-call : NamedCall Readm
 readm-call = record { call = record { on-set = refl; of-masters = refl; of-no-path = refl; of-no-link = refl; of-a-key = refl }; finds = refl; needs-it = refl; adds-none = refl; of-no-number = refl }
 
-module _ (t : Schema) (c : Call) (n : ℕ) (o : Operation) (e : Entry) (r : ℕ) (key area b : List ℕ) (k : NamedCall o) (h : Asks c o (c .name) r key area b) (at : OnSet t c n e) where
+pub writm-call : NamedCall Writm
+writm-call = record { call = record { on-set = refl; of-masters = refl; of-no-path = refl; of-no-link = refl; of-a-key = refl }; finds = refl; needs-it = refl; adds-none = refl; of-no-number = refl }
+
+pub delm-call : NamedCall DelM
+delm-call = record { call = record { on-set = refl; of-masters = refl; of-no-path = refl; of-no-link = refl; of-a-key = refl }; finds = refl; needs-it = refl; adds-none = refl; of-no-number = refl }
+
+-- and of those that do not
+pub addm-call : MasterCall AddM
+addm-call = record { on-set = refl; of-masters = refl; of-no-path = refl; of-no-link = refl; of-a-key = refl }
+
+pub rqloc-call : MasterCall Rqloc
+rqloc-call = record { on-set = refl; of-masters = refl; of-no-path = refl; of-no-link = refl; of-a-key = refl }
+
+-- ADD-M looks for the master that it adds, 13 is "master exists"; RQLOC looks for none
+pub seek-add : (t : Schema) (c : Call) → operationOf (c .operation) ≡ AddM
+    → refusal (seekTests (sceneUnder t c) c) ≡ cond (isDamaged (sceneUnder t c .found)) Damg (cond (isAt (sceneUnder t c .found)) Dupm Done)
+unfolding refusal
+seek-add t c q = rw (operation-here t c, q) refl
+
+pub seek-none : (t : Schema) (c : Call) → operationOf (c .operation) ≡ Rqloc → refusal (seekTests (sceneUnder t c) c) ≡ Done
+unfolding refusal
+seek-none t c q = rw (operation-here t c, q) refl
+
+module _ (t : Schema) (c : Call) (n : ℕ) (o : Operation) (e : Entry) (r : ℕ) (key area b : List ℕ) (h : Asks c o (c .name) r key area b) (at : OnSet t c n e) where
   pub found-is : sceneUnder t c .found ≡ find b e key
   found-is = rw (← h .base, ← h .key, ← at .masters) (found-here t c)
-
-  sought : (f : Found) → find b e key ≡ f → refusal (seekTests (sceneUnder t c) c) ≡ cond (isDamaged f) Damg (cond (isMissing f) Mrnf Done)
-  sought f g = seek-masters t c o k (h .operation) ∙ (rw (found-is, g) refl)
 
   same-given : {s : Status} → Ends (placedOutcome t c) s (c .reference) (c .area) (c .base) → Ends (placedOutcome t c) s r area b
   same-given w = rw (← h .reference, ← h .area, ← h .base) w
 
-  pub damage-ends : find b e key ≡ Damaged → Ends (placedOutcome t c) Damg r area b
+  -- a test of the search that refuses
+  refused-so : (s : Status) → 0 < statusNumber s → refusal (seekTests (sceneUnder t c) c) ≡ s → Ends (placedOutcome t c) s r area b
   unfolding placedOutcome
-  damage-ends g = same-given (refused-ends (sceneUnder t c) c _ Damg (rw (sought Damaged g) refl) (omega arith))
+  refused-so s l w = same-given (refused-ends (sceneUnder t c) c _ s (rw (w, not-done s l) refl) l)
+
+  -- the search refuses nothing: what is left decides
+  pub ends-left : (u : Outcome) {s : Status} {q : ℕ} {new after : List ℕ} → refusal (seekTests (sceneUnder t c) c) ≡ Done
+      → answered (sceneUnder t c) c (refusal (restTests (sceneUnder t c) c)) ≡ u → Ends u s q new after → Ends (placedOutcome t c) s q new after
+  unfolding placedOutcome
+  ends-left u g w v = rw (g, w) v
+
+module _ (t : Schema) (c : Call) (n : ℕ) (o : Operation) (e : Entry) (r : ℕ) (key area b : List ℕ) (k : NamedCall o) (h : Asks c o (c .name) r key area b) (at : OnSet t c n e) where
+  sought : (f : Found) → find b e key ≡ f → refusal (seekTests (sceneUnder t c) c) ≡ cond (isDamaged f) Damg (cond (isMissing f) Mrnf Done)
+  sought f g = seek-masters t c o k (h .operation) ∙ (rw (found-is t c n o e r key area b h at, g) refl)
+
+  pub damage-ends : find b e key ≡ Damaged → Ends (placedOutcome t c) Damg r area b
+  damage-ends g = refused-so t c n o e r key area b h at Damg (omega arith) (sought Damaged g)
 
   pub missing-ends : find b e key ≡ Missing → Ends (placedOutcome t c) Mrnf r area b
-  unfolding placedOutcome
-  missing-ends g = same-given (refused-ends (sceneUnder t c) c _ Mrnf (rw (sought Missing g) refl) (omega arith))
+  missing-ends g = refused-so t c n o e r key area b h at Mrnf (omega arith) (sought Missing g)
 
   -- it is there: what is left decides
-  pub found-ends : (m : RecordNo) → find b e key ≡ At m → placedOutcome t c ≡ answered (sceneUnder t c) c (refusal (restTests (sceneUnder t c) c))
-  unfolding placedOutcome
-  found-ends m g = rw (sought (At m) g) refl
-
   pub ends-as : (m : RecordNo) (u : Outcome) {s : Status} {q : ℕ} {new after : List ℕ} → find b e key ≡ At m
       → answered (sceneUnder t c) c (refusal (restTests (sceneUnder t c) c)) ≡ u → Ends u s q new after → Ends (placedOutcome t c) s q new after
-  ends-as m u g w v = rw (found-ends m g, w) v
+  ends-as m u g w v = ends-left t c n o e r key area b h at u (sought (At m) g) w v
+
+-- ---- ADD-M
+
+module _ (t : Schema) (c : Call) (n : ℕ) (e : Entry) (r : ℕ) (key area b : List ℕ) (h : Asks c AddM (c .name) r key area b) (at : OnSet t c n e) where
+  sought-add : (f : Found) → find b e key ≡ f → refusal (seekTests (sceneUnder t c) c) ≡ cond (isDamaged f) Damg (cond (isAt f) Dupm Done)
+  sought-add f g = seek-add t c (h .operation) ∙ (rw (found-is t c n AddM e r key area b h at, g) refl)
+
+  pub add-damage-ends : find b e key ≡ Damaged → Ends (placedOutcome t c) Damg r area b
+  add-damage-ends g = refused-so t c n AddM e r key area b h at Damg (omega arith) (sought-add Damaged g)
+
+  pub there-ends : (m : RecordNo) → find b e key ≡ At m → Ends (placedOutcome t c) Dupm r area b
+  there-ends m g = refused-so t c n AddM e r key area b h at Dupm (omega arith) (sought-add (At m) g)
+
+  -- it is not there: what is left decides
+  pub add-ends-as : (u : Outcome) {s : Status} {q : ℕ} {new after : List ℕ} → find b e key ≡ Missing
+      → answered (sceneUnder t c) c (refusal (restTests (sceneUnder t c) c)) ≡ u → Ends u s q new after → Ends (placedOutcome t c) s q new after
+  add-ends-as u g w v = ends-left t c n AddM e r key area b h at u (sought-add Missing g) w v

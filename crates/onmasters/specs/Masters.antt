@@ -1,33 +1,27 @@
 -- Calls on masters: what they have found out when their set is known, and when their master is.
-use Prim.Native.Nat.{ℕ, _+_, _*_, _≤_, _<_}
-use mathlib.Core.Path.{_≡_, refl, sym, ap, _∙_}
-use mathlib.Core.Bool.{Bool, true, false, cond, not, _&&_, _||_}
+use Prim.Native.Nat.{ℕ, _≤_, _<_}
+use mathlib.Core.Path.{_≡_}
+use mathlib.Core.Bool.{true, false, not}
 use mathlib.Core.List.{List, [], _∷_}
-use native.Mathlib.Omega.{arith}
-use lib.Dec.{eqb, ltb}
 use lib.ListN.{length}
-use borrow.Author.Tests.{eqb-true, ne-eqb, eq-eqb, lt-ltb, le-ltb, not-false}
 use Rattle.terms.specs.declared.Status.{Status}
-use Rattle.terms.specs.declared.Status.the-variants.{Done, Fntf, Kind, Mrnf, Damg}
+use Rattle.terms.specs.declared.Status.the-variants.{Done}
 use Rattle.terms.specs.declared.Operation.{Operation}
-use Rattle.terms.specs.declared.Operation.the-variants.{Formt, Sinon, AddM, DelM, Readm, Writm, Rqloc, Readv, Readr}
-use Rattle.terms.specs.Status.{statusNumber}
-use Rattle.terms.specs.Operation.{operationOf}
+use Rattle.terms.specs.declared.Operation.the-variants.{Formt, Sinon, AddM, DelM, Readm, Writm}
 use Rattle.schema.specs.declared.Entry.{Entry}
 use Rattle.schema.specs.declared.Schema.{Schema}
 use Rattle.schema.specs.Decode.{entryOf}
 use Rattle.schema.specs.Place.{LiesIn}
 use Rattle.schema.specs.Guarantee.{MasterOk}
 use Rattle.areas.specs.AreaLaws.{Fields}
-use Rattle.records.specs.Areas.{isMaster, areaLength}
-use Rattle.masters.specs.declared.Found.{Found}
-use Rattle.masters.specs.declared.Found.the-variants.{At, Missing, Damaged}
-use Rattle.masters.specs.Find.{find, isMissing, isDamaged}
+use Rattle.records.specs.Areas.{areaLength}
+use Rattle.plans.specs.declared.Head.the-variants.{Body}
+use Rattle.plans.specs.declared.Planned.{Planned}
+use Rattle.plans.specs.Stores.{wordsOf}
 use Rattle.calls.specs.Call.{Call, oneOf, masterCalls, variableCalls}
-use Rattle.calls.specs.Scene.{Scene, sceneUnder, setNamed}
-use Rattle.calls.specs.Ladder.{refusal, wrongKind, finders}
-use Rattle.calls.specs.Answer.{firstOf, placeTests, formTests, seekTests}
-use Rattle.forms.specs.Form.{rungsOf, formStatus}
+use Rattle.calls.specs.Scene.{sceneUnder}
+use Rattle.calls.specs.Ladder.{finders}
+use Rattle.forms.specs.Form.{rungsOf}
 use Rattle.onmasters.specs.declared.Placed.{Placed}
 use Rattle.ends.specs.Ends.{Ends}
 use Rattle.ends.specs.Asks.{Asks, placedStatus, placedOutcome}
@@ -82,3 +76,16 @@ pub record MasterIn (e : Entry) (n : ℕ) : Type 0 where
 -- every call on this set comes to this, whatever the schema
 pub record AnswersOn (o : Operation) (e : Entry) (r : ℕ) (k a b : List ℕ) (s : Status) (q : ℕ) (new after : List ℕ) : Type 0 where
   pub told : (t : Schema) (c : Call) (n : ℕ) → Asks c o (c .name) r k a b → OnSet t c n e → Ends (placedOutcome t c) s q new after
+
+-- the same of every call on set number n of the schema t
+pub record AnswersIn (t : Schema) (n : ℕ) (o : Operation) (e : Entry) (r : ℕ) (k a b : List ℕ) (s : Status) (q : ℕ) (new after : List ℕ) : Type 0 where
+  pub told : (c : Call) → Asks c o (c .name) r k a b → OnSet t c n e → Ends (placedOutcome t c) s q new after
+
+-- nothing is planned but the area's D bytes into the record m
+pub record BodyAt (p : Planned) (m : ℕ) : Type 0 where
+  pub status : p .status ≡ Done
+  pub head : p .plan .head ≡ Body
+  pub target : p .plan .target .0 ≡ m
+  pub count : p .plan .count ≡ 0
+  pub words : wordsOf (p .plan) ≡ []
+  pub wiped : p .plan .wiped ≡ 0

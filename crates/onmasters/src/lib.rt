@@ -2,23 +2,34 @@
 use ends::Answer;
 use ends::ended;
 use ends::give;
+use ends::settle;
 use masters::Found;
 use masters::walk;
+use plans::Head;
+use plans::Plan;
+use plans::Planned;
+use records::Link;
+use roots::add_master;
+use roots::del_master;
 use schema::Entry;
 use schema::Schema;
 use schema::layout::entry_of;
 use terms::EntryNo;
 use terms::Key;
 use terms::Operation;
+use terms::RecordNo;
 use terms::Reference;
 use terms::Status;
 ghost use mathlib.Core.Path.{_≡_};
-ghost use Prim.Native.Nat.{_*_, _%_};
+ghost use mathlib.Core.List.{List};
+ghost use Prim.Native.Nat.{ℕ, _*_, _%_, _≤_, _<_};
 ghost use lib.ListN.{length};
-ghost use Rattle.terms.specs.declared.Operation.the-variants.{Readm};
+ghost use Rattle.terms.specs.declared.Operation.the-variants.{AddM, DelM, Readm, Writm, Rqloc};
+ghost use Rattle.schema.specs.Decode.{entryOf};
+ghost use Rattle.schema.specs.Guarantee.{MasterOk};
 ghost use Rattle.records.specs.Areas.{areaLength};
 ghost use Rattle.ends.specs.Asks.{Laid};
-ghost use Rattle.onmasters.specs.Masters.{MasterCall, Places, MasterIn, AnswersOn};
+ghost use Rattle.onmasters.specs.Masters.{MasterCall, Places, MasterIn, AnswersOn, AnswersIn, BodyAt};
 
 // The set that a call on masters speaks of, where the status is Done.
 pub struct Placed {
@@ -87,4 +98,93 @@ pub fn readm(e: Entry, reference: Reference, key: &[u8], area: &mut [u8], base: 
         Found::Missing => ended(Status::Mrnf, reference),
         Found::At(m) => give(base, e, m.0, area),
     }
+}
+
+// The D bytes of the area go into the record m.
+fn body_plan(m: RecordNo) -> Planned
+    ensures { λ p. ⌜ BodyAt p (m .0) ⌝ }
+{
+    let links = [Link { prior: 0, next: 0 }; 4];
+    let status = Status::Done;
+    let plan = Plan::of(Head::Body, m, m, links);
+    Planned { status, plan }
+}
+
+// WRITM: "WRITM and WRITV replace the D bytes." .. "ADD-M, DEL-M, WRITM .. return the reference given."
+pub fn writm(e: Entry, reference: Reference, key: &[u8], area: &[u8], base: &mut [u8]) -> Answer
+    requires { ⌜ MasterIn e (length (now base)) ⌝ }
+    requires { ⌜ length (now key) ≡ e .key ⌝ }
+    requires { ⌜ length (now area) ≡ areaLength e ⌝ }
+    ensures { λ a. ⌜ AnswersOn Writm e (reference .0) (now (key .entry)) (now (area .entry)) (now (base .entry)) (a .status) (a .reference .0) (now (area .entry)) (now (base .exit)) ⌝ }
+{
+    let s = walk::find(base, e, Key::of(key));
+    let found = s.found;
+    match found {
+        Found::Damaged => ended(Status::Damg, reference), // 16, then 12
+        Found::Missing => ended(Status::Mrnf, reference),
+        Found::At(m) => settle(base, e, area, body_plan(m), reference, reference),
+    }
+}
+
+// ADD-M: a master that is there already is refused. The search has met the record that a synonym is linked behind.
+pub fn addm(e: Entry, reference: Reference, key: &[u8], area: &[u8], base: &mut [u8]) -> Answer
+    requires { ⌜ MasterIn e (length (now base)) ⌝ }
+    requires { ⌜ length (now key) ≡ e .key ⌝ }
+    requires { ⌜ length (now area) ≡ areaLength e ⌝ }
+    ensures { λ a. ⌜ AnswersOn AddM e (reference .0) (now (key .entry)) (now (area .entry)) (now (base .entry)) (a .status) (a .reference .0) (now (area .entry)) (now (base .exit)) ⌝ }
+{
+    let k = Key::of(key);
+    let s = walk::find(base, e, k);
+    let last = s.last;
+    let found = s.found;
+    match found {
+        Found::Damaged => ended(Status::Damg, reference),
+        Found::At(m) => ended(Status::Dupm, reference),
+        Found::Missing => {
+            let planned = add_master(base, e, k.home(e.records), last);
+            settle(base, e, area, planned, reference, reference)
+        }
+    }
+}
+
+// DEL-M of a master of set number n. The area is ignored.
+pub fn delm(
+    t: Schema,
+    n: EntryNo,
+    e: Entry,
+    reference: Reference,
+    key: &[u8],
+    area: &[u8],
+    base: &mut [u8],
+) -> Answer
+    requires { ⌜ Laid t (length (now base)) ⌝ }
+    requires { ⌜ n .0 < t .masters ⌝ }
+    requires { ⌜ e ≡ entryOf t (n .0) ⌝ }
+    requires { ⌜ MasterIn e (length (now base)) ⌝ }
+    requires { ⌜ length (now key) ≡ e .key ⌝ }
+    ensures { λ a. ⌜ AnswersIn t (n .0) DelM e (reference .0) (now (key .entry)) (now (area .entry)) (now (base .entry)) (a .status) (a .reference .0) (now (area .entry)) (now (base .exit)) ⌝ }
+{
+    let k = Key::of(key);
+    let s = walk::find(base, e, k);
+    let found = s.found;
+    match found {
+        Found::Damaged => ended(Status::Damg, reference),
+        Found::Missing => ended(Status::Mrnf, reference),
+        Found::At(m) => {
+            let p = del_master(base, t, n, e, k.home(e.records), m);
+            settle(base, e, area, p, reference, reference)
+        }
+    }
+}
+
+// RQLOC: "RQLOC returns the home." It looks for no master, and neither area nor base is touched.
+pub fn rqloc(e: Entry, reference: Reference, key: &[u8]) -> Answer
+    requires { ⌜ MasterOk e ⌝ }
+    requires { ⌜ 1 ≤ e .records ⌝ }
+    requires { ⌜ length (now key) ≡ e .key ⌝ }
+    ensures { λ a. ⌜ ((area b : List ℕ) → AnswersOn Rqloc e (reference .0) (now (key .entry)) area b (a .status) (a .reference .0) area b) ⌝ }
+{
+    let k = Key::of(key);
+    let home = k.home(e.records);
+    ended(Status::Done, Reference::number(home))
 }

@@ -31,7 +31,7 @@ ghost use Rattle.schema.specs.Place.{InSet, LiesIn};
 ghost use Rattle.schema.specs.Guarantee.{MasterOk, SchemaOk};
 ghost use Rattle.records.specs.Records.{rootNext};
 ghost use Rattle.plans.specs.declared.Head.the-variants.{Nothing, Master, Stranger, Synonym};
-ghost use Rattle.plans.specs.PlanOk.{PlanOk};
+ghost use Rattle.plans.specs.PlanOk.{PlanOk, AreaOk};
 ghost use Rattle.plans.specs.Stores.{planStores};
 ghost use Rattle.masters.specs.Find.{heldByOwn, tailFrom};
 ghost use Rattle.masters.specs.Root.{badRoot, rootPriorSide, rootNextSide, addForStranger, addMasterStores, delByMove, delMasterDamaged, delMasterStores};
@@ -259,7 +259,7 @@ fn unlink_plan(e: Entry, r: RecordNo, prior: u32, next: u32) -> Plan
     w.with_wiped(r)
 }
 
-// The synonym s moves into the home h.
+// The synonym s moves into the home h. No plan of DEL-M takes a byte of the area.
 fn del_by_move(base: &[u8], e: Entry, h: RecordNo, s: RecordNo) -> Planned
     requires { ⌜ LiesIn e (length (now base)) ⌝ }
     requires { ⌜ MasterOk e ⌝ }
@@ -267,6 +267,7 @@ fn del_by_move(base: &[u8], e: Entry, h: RecordNo, s: RecordNo) -> Planned
     requires { ⌜ InSet e (s .0) ⌝ }
     ensures { λ p. ⌜ p .status ≡ cond (badRoot (now (base .entry)) e (rootNext (now (base .entry)) e (s .0))) Damg Done ⌝ }
     ensures { λ p. ⌜ (p .status ≡ Done → Stands (now (base .entry)) e (p .plan) (λ _. delByMove (now (base .entry)) e (h .0) (s .0))) ⌝ }
+    ensures { λ p. ⌜ (p .status ≡ Done → (area : List ℕ) → AreaOk (p .plan .head) e area) ⌝ }
 {
     let next = root_next(base, e, s);
     if bad_root(base, e, next) {
@@ -286,6 +287,7 @@ fn del_unpointed(base: &[u8], e: Entry, h: RecordNo, r: RecordNo) -> Planned
     requires { ⌜ InSet e (r .0) ⌝ }
     ensures { λ p. ⌜ p .status ≡ cond (delMasterDamaged (now (base .entry)) e (h .0) (r .0)) Damg Done ⌝ }
     ensures { λ p. ⌜ (p .status ≡ Done → Stands (now (base .entry)) e (p .plan) (λ _. delMasterStores (now (base .entry)) e (h .0) (r .0))) ⌝ }
+    ensures { λ p. ⌜ (p .status ≡ Done → (area : List ℕ) → AreaOk (p .plan .head) e area) ⌝ }
 {
     let prior = root_prior(base, e, r);
     let next = root_next(base, e, r);
@@ -313,6 +315,7 @@ pub fn del_master(base: &[u8], t: Schema, n: EntryNo, e: Entry, h: RecordNo, r: 
     requires { ⌜ InSet e (r .0) ⌝ }
     ensures { λ p. ⌜ p .status ≡ delMasterStatus t (now (base .entry)) (n .0) e (h .0) (r .0) ⌝ }
     ensures { λ p. ⌜ (p .status ≡ Done → ((area : List ℕ) → planStores (now (base .entry)) e area (p .plan) ≡ delMasterStores (now (base .entry)) e (h .0) (r .0)) × PlanOk (length (now (base .entry))) e (p .plan)) ⌝ }
+    ensures { λ p. ⌜ (p .status ≡ Done → (area : List ℕ) → AreaOk (p .plan .head) e area) ⌝ }
 {
     if has_points(base, t, n, e, r) {
         return refused(Status::Imdl);

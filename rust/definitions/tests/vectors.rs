@@ -39,7 +39,7 @@ fn a_moved_stranger_with_its_prior_left_behind_is_noticed() {
 #[test]
 fn zero_for_a_deleted_first_record_is_noticed() {
     is_noticed(
-        "store/Reply",
+        "calls/Reply",
         "orLink p r = cond (eqb r 0) (linkOf p) r",
         "orLink p r = r",
     );

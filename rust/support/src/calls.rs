@@ -45,8 +45,13 @@ impl<'a> CallMaker<'a> {
 
     /// A likely call with one or two of its parameters spoilt.
     pub fn faulty(&self, random: &mut Random, base: &[u8]) -> Call {
+        self.faulty_up_to(2, random, base)
+    }
+
+    /// A likely call with one or more of its parameters spoilt.
+    pub fn faulty_up_to(&self, most: usize, random: &mut Random, base: &[u8]) -> Call {
         let mut call = self.likely(random, base);
-        for _ in 0..random.between(1, 2) {
+        for _ in 0..random.between(1, most) {
             self.spoil(random, &mut call);
         }
         call

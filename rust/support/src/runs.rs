@@ -14,7 +14,7 @@ use crate::damage::rubbish;
 use crate::lists::Lists;
 use crate::{make, schemas, Answered, Call, Random, Trace};
 
-/// Calls between two readings of the whole store.
+/// Calls between two readings of the whole store, where nothing else is said.
 const COMPARE_EVERY: usize = 6;
 
 /// What happened in all runs together, so that a test can tell that it tested
@@ -43,6 +43,17 @@ pub fn run(
     store: impl FnMut(&mut Call, &[u8], &mut [u8]) -> (Status, u32),
     seen: &mut Seen,
 ) {
+    run_reading_every(COMPARE_EVERY, seed, steps, store, seen);
+}
+
+/// The same with the whole store read through after every so many calls.
+pub fn run_reading_every(
+    calls: usize,
+    seed: u64,
+    steps: usize,
+    store: impl FnMut(&mut Call, &[u8], &mut [u8]) -> (Status, u32),
+    seen: &mut Seen,
+) {
     let mut trace = Trace::new(seed);
     let mut random = Random::new(seed);
     let bytes = schemas::small(&mut random).encode();
@@ -56,7 +67,7 @@ pub fn run(
         } else {
             run.likely_call(&maker.likely(&mut random, &run.base), seen);
         }
-        if step % COMPARE_EVERY == 0 {
+        if step % calls == 0 {
             run.compare();
         }
     }

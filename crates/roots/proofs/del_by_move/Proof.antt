@@ -30,7 +30,7 @@ refused-requires c κs = search needs
 returns : tie.Need-returns
 returns c =
     let d = tested (c .before .before) _ (c .before .if1 .taken) in
-    (c .refused .ensures ∙ (rw d), not-done (inr (inr (c .refused .ensures))))
+    (c .refused .ensures ∙ (rw d), (not-done (inr (inr (c .refused .ensures))), not-done (inr (inr (c .refused .ensures)))))
 
 move-plan-requires : tie.Need-move-plan-requires
 move-plan-requires c κs =
@@ -47,8 +47,11 @@ returns-2 c =
     let a = s .args in
     let d = tested (k .before) _ (k .if1 .left) in (
       rw d,
-      λ _. move-stands (now (a .base)) (a .e) (s .pre .0) (s .pre .1 .0) (a .h .0) (a .s .0) (s .pre .1 .1 .0) (s .pre .1 .1 .1)
-          (not-bad (now (a .base)) (a .e) (rootNext (now (a .base)) (a .e) (a .s .0)) d) (rw (n .root-next .ensures) at (c .move-plan .ensures)),
+      (
+        λ _. move-stands (now (a .base)) (a .e) (s .pre .0) (s .pre .1 .0) (a .h .0) (a .s .0) (s .pre .1 .1 .0) (s .pre .1 .1 .1)
+            (not-bad (now (a .base)) (a .e) (rootNext (now (a .base)) (a .e) (a .s .0)) d) (rw (n .root-next .ensures) at (c .move-plan .ensures)),
+        λ _ area. rw (c .move-plan .ensures .head) tt,
+      ),
     )
 
 pub del-by-move-spec : {M : Type 1} → statement M

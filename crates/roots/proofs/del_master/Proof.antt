@@ -21,7 +21,7 @@ returns c =
     let k = c .before .before in
     let a = k .before .before .args in
     let p = sym (k .has-points .ensures) ∙ c .before .if1 .taken in
-    (c .refused .ensures ∙ del-points (now (a .base)) (a .e) (a .h .0) (a .r .0) (a .t) (a .n .0) p, not-done (inl (c .refused .ensures)))
+    (c .refused .ensures ∙ del-points (now (a .base)) (a .e) (a .h .0) (a .r .0) (a .t) (a .n .0) p, (not-done (inl (c .refused .ensures)), not-done (inl (c .refused .ensures))))
 
 del-unpointed-requires : tie.Need-del-unpointed-requires
 del-unpointed-requires c κs =
@@ -38,7 +38,7 @@ returns-2 c =
     let a = k .before .before .args in
     let p = sym (k .has-points .ensures) ∙ c .before .if1 .left in
     let w = c .del-unpointed .ensures in
-    (w .0 ∙ del-no-points (now (a .base)) (a .e) (a .h .0) (a .r .0) (a .t) (a .n .0) p, λ d. let z = w .1 d in (z .stores, z .ok))
+    (w .0 ∙ del-no-points (now (a .base)) (a .e) (a .h .0) (a .r .0) (a .t) (a .n .0) p, (λ d. let z = w .1 .0 d in (z .stores, z .ok), w .1 .1))
 
 pub del-master-spec : {M : Type 1} → statement M
 del-master-spec =

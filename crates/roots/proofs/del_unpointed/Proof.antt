@@ -45,7 +45,7 @@ returns c =
     let k = c .before .before .before .before in
     let a = k .before .before .before .before .before .args in
     let d = del-damaged (now (a .base)) (a .e) (a .h .0) (a .r .0) (tested k _ (c .before .if1 .taken)) in
-    (c .refused .ensures ∙ (rw d), not-done (inr (inr (c .refused .ensures))))
+    (c .refused .ensures ∙ (rw d), (not-done (inr (inr (c .refused .ensures))), not-done (inr (inr (c .refused .ensures)))))
 
 del-by-move-requires : tie.Need-del-by-move-requires
 del-by-move-requires c κs =
@@ -66,7 +66,7 @@ returns-2 c =
     let m = moves k _ (c .before .if2 .taken) in
     let w = c .del-by-move .ensures in (
       (rw (k .before .before .root-next .ensures) at (w .0)) ∙ (rw (move-damaged (now (a .base)) (a .e) (a .h .0) (a .r .0) d m)),
-      λ z. stands-as (rw (k .before .before .root-next .ensures) at (w .1 z)) (move-stores (now (a .base)) (a .e) (a .h .0) (a .r .0) m),
+      (λ z. stands-as (rw (k .before .before .root-next .ensures) at (w .1 .0 z)) (move-stores (now (a .base)) (a .e) (a .h .0) (a .r .0) m), w .1 .1),
     )
 
 unlink-plan-requires : tie.Need-unlink-plan-requires
@@ -90,9 +90,12 @@ returns-3 c =
     let m = moves k _ (c .before .if2 .left) in
     let near = del-near (now (a .base)) (a .e) (a .h .0) (a .r .0) d in (
       rw (unlink-sound (now (a .base)) (a .e) (a .h .0) (a .r .0) d m),
-      λ _. stands-as
-          (unlink-stands (now (a .base)) (a .e) (s .pre .0) (s .pre .1 .0) (a .r .0) (s .pre .1 .1 .1) (near .0) (near .1) (rw (n .before .root-prior .ensures, n .root-next .ensures) at (c .unlink-plan .ensures)))
-          (unlink-stores (now (a .base)) (a .e) (a .h .0) (a .r .0) m),
+      (
+        λ _. stands-as
+            (unlink-stands (now (a .base)) (a .e) (s .pre .0) (s .pre .1 .0) (a .r .0) (s .pre .1 .1 .1) (near .0) (near .1) (rw (n .before .root-prior .ensures, n .root-next .ensures) at (c .unlink-plan .ensures)))
+            (unlink-stores (now (a .base)) (a .e) (a .h .0) (a .r .0) m),
+        λ _ area. rw (c .unlink-plan .ensures .head) tt,
+      ),
     )
 
 pub del-unpointed-spec : {M : Type 1} → statement M

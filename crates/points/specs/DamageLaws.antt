@@ -1,0 +1,84 @@
+-- The final 16, as the code asks it: a neighbour pointer by the tests made on it, and the paths one after the other.
+use Prim.Native.Nat.{ℕ, _+_, _≤_, _<_}
+use mathlib.Core.Path.{_≡_, refl, sym, ap}
+use mathlib.Core.Logic.{⊎-elim}
+use mathlib.Core.Bool.{Bool, true, false, not, _&&_, _||_}
+use mathlib.Core.List.{List}
+use native.Mathlib.Omega.{arith}
+use borrow.Author.Tests.{eq-eqb, ne-eqb, le-leb, lt-leb, not-false}
+use lib.ListN.{getD, take}
+use lib.Seq.{getD-take}
+use Rattle.octets.specs.Octets.{sameBytes, run}
+use Rattle.octets.specs.Below.{allBelow}
+use Rattle.octets.specs.BelowLaws.{allBelow-at, allBelow-fails, allBelow-same}
+use Rattle.octets.specs.RunLaws.{sameBytes-comm}
+use Rattle.schema.specs.declared.Path.{Path}
+use Rattle.schema.specs.declared.Entry.{Entry}
+use Rattle.schema.specs.Decode.{pathOf}
+use Rattle.schema.specs.Place.{InSet, placeOf}
+use Rattle.records.specs.declared.Link.{Link}
+use Rattle.records.specs.Records.{isLive, keyOn}
+use Rattle.records.specs.Areas.{noLink}
+use Rattle.chains.specs.Chains.{badNeighbour}
+use Rattle.chains.specs.SideLaws.{neighbour-ok}
+use Rattle.points.specs.Paths.{keyAt, unevenAt, damagedAt, cleanAt, damaged}
+use Rattle.points.specs.VariableIn.{LinksIn}
+
+-- ---- one neighbour
+
+module _ (b : List ℕ) (e : Entry) (p : Path) (key : List ℕ) (n : ℕ) where
+  pub bad-none : n ≡ 0 → false ≡ badNeighbour b e p key n
+  bad-none h = rw (eq-eqb n 0 h)
+
+  pub bad-above : e .records < n → true ≡ badNeighbour b e p key n
+  bad-above h = rw (ne-eqb n 0 (λ z. omega arith), le-leb 1 n (omega arith), lt-leb n (e .records) h)
+
+  pub bad-read : (n ≡ 0 → ⊥) → n ≤ e .records → {live same : Bool} {len : ℕ} → len ≡ p .len → live ≡ isLive b e n
+      → same ≡ sameBytes key (run b (placeOf e n + p .at) len) → not (live && same) ≡ badNeighbour b e p key n
+  bad-read z h q l s = rw (l, s, q, ne-eqb n 0 z, le-leb 1 n (omega arith), le-leb n (e .records) h, sameBytes-comm key (keyOn b e n p))
+
+-- ---- one path, read
+
+pub damaged-read : {bad : Bool} {p q : Path} {key : List ℕ} (b : List ℕ) (e : Entry) (src : List ℕ) (from f : ℕ) (l : Link) → q ≡ p → bad ≡ damagedAt b e q key f l
+    → key ≡ run src from (q .len) → bad ≡ damagedAt b e p (run src from (p .len)) f l
+damaged-read b e src from f l g h i = rw (h, i, g)
+
+-- ---- all paths
+
+module _ (b : List ℕ) (e : Entry) (src at ends : List ℕ) (links : List Link) where
+  pub damaged-here : (k : ℕ) → k < e .count → cleanAt b e src at ends links k ≡ false → true ≡ damaged b e src at ends links
+  unfolding damaged
+  damaged-here k l h = sym (ap not (allBelow-fails (cleanAt b e src at ends links) (e .count) k l h))
+
+  pub damaged-nowhere : allBelow (cleanAt b e src at ends links) (e .count) ≡ true → false ≡ damaged b e src at ends links
+  unfolding damaged
+  damaged-nowhere h = sym (ap not h)
+
+  -- only the paths of the set count
+  pub damaged-taken : damaged b e src at ends links ≡ damaged b e src at ends (take (e .count) links)
+  unfolding damaged
+  damaged-taken =
+      ap not
+      (allBelow-same (cleanAt b e src at ends links) (cleanAt b e src at ends (take (e .count) links)) (e .count)
+      (λ k l. rw (getD-take (e .count) links k noLink l)))
+
+  -- where no path is damaged, every neighbour is none, or a record of the set
+  no-damage : (s t u : Bool) → not (s || t || u) ≡ true → (t ≡ false) × (u ≡ false)
+  no-damage true t u h = absurd (let z : _≡_ {A = ℕ} 0 1 = cc in omega arith)
+  no-damage false true u h = absurd (let z : _≡_ {A = ℕ} 0 1 = cc in omega arith)
+  no-damage false false true h = absurd (let z : _≡_ {A = ℕ} 0 1 = cc in omega arith)
+  no-damage false false false h = (refl, refl)
+
+  none-or-in : (p : Path) (key : List ℕ) (n : ℕ) → badNeighbour b e p key n ≡ false → (n ≡ 0 → ⊥) → InSet e n
+  none-or-in p key n h z = ⊎-elim (λ q. absurd (z q)) (λ q. q .in-set) (neighbour-ok b e p key n h)
+
+  pub links-in : damaged b e src at ends links ≡ false → LinksIn e links
+  unfolding damaged
+  links-in h =
+      record {
+        inside = λ k l.
+            let n = getD links k noLink in
+            let bad : ℕ → Bool = λ m. badNeighbour b e (pathOf e k) (keyAt src e at k) m in
+            let d = no-damage (unevenAt b (getD ends k 0)) (bad (n .prior)) (bad (n .next)) (allBelow-at (cleanAt b e src at ends links) (e .count) k (not-false _ h) l) in
+            record { prior = none-or-in (pathOf e k) (keyAt src e at k) _ (d .0); next = none-or-in (pathOf e k) (keyAt src e at k) _ (d .1) };
+      }

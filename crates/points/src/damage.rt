@@ -1,0 +1,112 @@
+// The final 16 of the adds and DELVD, path by path: uneven ends, and neighbours that are none of the chain's.
+use super::search::key_at;
+use records::Link;
+use records::fields::is_live;
+use records::fields::key_is;
+use schema::Entry;
+use schema::Path;
+use schema::layout::path_of;
+use terms::Key;
+use terms::RecordNo;
+ghost use mathlib.Core.Path.{_≡_};
+ghost use Prim.Native.Nat.{_+_, _≤_, _<_};
+ghost use lib.ListN.{length};
+ghost use Rattle.octets.specs.Octets.{run};
+ghost use Rattle.terms.specs.Terms.{keyOf};
+ghost use Rattle.schema.specs.Decode.{pathOf};
+ghost use Rattle.schema.specs.Place.{LiesIn};
+ghost use Rattle.chains.specs.Chains.{badNeighbour};
+ghost use Rattle.points.specs.Paths.{unevenAt, damagedAt, damaged};
+ghost use Rattle.points.specs.VariableIn.{PointsIn, PathIn, EndsIn, KeysIn};
+
+// "a neighbour pointer the call uses is not 0 and is above R, not live, or (variable) of another key on that path"
+pub fn bad_neighbour(base: &[u8], e: Entry, p: Path, key: Key, n: u32) -> bool
+    requires { ⌜ LiesIn e (length (now base)) ⌝ }
+    requires { ⌜ PathIn e p ⌝ }
+    requires { ⌜ key .len ≡ p .len ⌝ }
+    ensures { λ bad. ⌜ bad ≡ badNeighbour (now (base .entry)) e p (keyOf key) n ⌝ }
+{
+    if n == 0 {
+        return false;
+    }
+    if e.records < n {
+        return true;
+    }
+    let r = RecordNo(n);
+    let live = is_live(base, e, r);
+    let same = key_is(base, e, r, p.at as usize, key);
+    !(live & same)
+}
+
+// "first and last are one 0 and one not": first stands at `first`.
+fn uneven_ends(base: &[u8], first: usize) -> bool
+    requires { ⌜ first + 8 ≤ length (now base) ⌝ }
+    ensures { λ uneven. ⌜ uneven ≡ unevenAt (now (base .entry)) first ⌝ }
+{
+    let none_first = octets::word(base, first) == 0;
+    let none_last = octets::word(base, first + 4) == 0;
+    none_first ^ none_last
+}
+
+// Is damage met on path p, for a record with this key and these neighbours?
+fn damaged_at(base: &[u8], e: Entry, p: Path, key: Key, first: usize, link: Link) -> bool
+    requires { ⌜ LiesIn e (length (now base)) ⌝ }
+    requires { ⌜ PathIn e p ⌝ }
+    requires { ⌜ key .len ≡ p .len ⌝ }
+    requires { ⌜ first + 8 ≤ length (now base) ⌝ }
+    ensures { λ bad. ⌜ bad ≡ damagedAt (now (base .entry)) e p (keyOf key) first link ⌝ }
+{
+    let uneven = uneven_ends(base, first);
+    let prior = bad_neighbour(base, e, p, key, link.prior);
+    let next = bad_neighbour(base, e, p, key, link.next);
+    uneven | prior | next
+}
+
+// The same of path k, whose key stands at `from` of src.
+fn damaged_on(
+    base: &[u8],
+    e: Entry,
+    src: &[u8],
+    from: usize,
+    first: usize,
+    link: Link,
+    k: usize,
+) -> bool
+    requires { ⌜ PointsIn e (length (now base)) ⌝ }
+    requires { ⌜ k < e .count ⌝ }
+    requires { ⌜ from + pathOf e k .len ≤ length (now src) ⌝ }
+    requires { ⌜ first + 8 ≤ length (now base) ⌝ }
+    ensures { λ bad. ⌜ bad ≡ damagedAt (now (base .entry)) e (pathOf e k) (run (now (src .entry)) from (pathOf e k .len)) first link ⌝ }
+{
+    let p = path_of(e, k);
+    let key = key_at(src, from, p.len as usize);
+    damaged_at(base, e, p, key, first, link)
+}
+
+// The same of any path.
+pub fn any_damaged(
+    base: &[u8],
+    e: Entry,
+    src: &[u8],
+    at: [usize; 4],
+    ends: [usize; 4],
+    links: [Link; 4],
+) -> bool
+    requires { ⌜ PointsIn e (length (now base)) ⌝ }
+    requires { ⌜ KeysIn e at (length (now src)) ⌝ }
+    requires { ⌜ EndsIn e ends (length (now base)) ⌝ }
+    ensures { λ bad. ⌜ bad ≡ damaged (now (base .entry)) e (now (src .entry)) at ends links ⌝ }
+{
+    let count = e.count as usize;
+    let mut k: usize = 0;
+    while k < count {
+        let from = at[k];
+        let first = ends[k];
+        let link = links[k];
+        if damaged_on(base, e, src, from, first, link, k) {
+            return true;
+        }
+        k += 1;
+    }
+    false
+}

@@ -1,0 +1,103 @@
+// A record's neighbours, path by path: those that it has, and those that a new record will have.
+use chains::Spot;
+use records::Link;
+use records::fields::next_on;
+use records::fields::prior_on;
+use schema::Entry;
+use schema::Path;
+use schema::layout::path_of;
+use terms::RecordNo;
+ghost use mathlib.Core.Path.{_≡_};
+ghost use Prim.Native.Nat.{_+_, _≤_, _<_};
+ghost use lib.ListN.{length, take};
+ghost use Rattle.octets.specs.Octets.{wordAt};
+ghost use Rattle.schema.specs.Decode.{pathOf};
+ghost use Rattle.schema.specs.Place.{InSet, LiesIn};
+ghost use Rattle.records.specs.Records.{priorOn, nextOn};
+ghost use Rattle.chains.specs.Points.{spotOn, neighboursAt};
+ghost use Rattle.points.specs.Paths.{ownLinks, newLinks};
+ghost use Rattle.points.specs.VariableIn.{PointsIn, EndsIn, SpotOk};
+
+// The neighbours of a record on path p.
+fn own_link(base: &[u8], e: Entry, r: RecordNo, p: Path) -> Link
+    requires { ⌜ InSet e (r .0) ⌝ }
+    requires { ⌜ LiesIn e (length (now base)) ⌝ }
+    requires { ⌜ p .at + p .len + 8 ≤ e .size ⌝ }
+    ensures { λ l. ⌜ l ≡ record { prior = priorOn (now (base .entry)) e (r .0) p; next = nextOn (now (base .entry)) e (r .0) p } ⌝ }
+{
+    let prior = prior_on(base, e, r, p);
+    let next = next_on(base, e, r, p);
+    Link { prior, next }
+}
+
+// The neighbours of a record on every path.
+pub fn own_links(base: &[u8], e: Entry, r: RecordNo) -> [Link; 4]
+    requires { ⌜ PointsIn e (length (now base)) ⌝ }
+    requires { ⌜ InSet e (r .0) ⌝ }
+    ensures { λ l. ⌜ take (e .count) l ≡ ownLinks (now (base .entry)) e (r .0) ⌝ }
+{
+    let count = e.count as usize;
+    let mut links = [Link { prior: 0, next: 0 }; 4];
+    let mut k: usize = 0;
+    while k < count {
+        let p = path_of(e, k);
+        links[k] = own_link(base, e, r, p);
+        k += 1;
+    }
+    links
+}
+
+// Where a new record goes on path p, in a chain whose last record is z.
+fn neighbours_at(base: &[u8], e: Entry, p: Path, z: u32, spot: Spot) -> Link
+    requires { ⌜ LiesIn e (length (now base)) ⌝ }
+    requires { ⌜ p .at + p .len + 8 ≤ e .size ⌝ }
+    requires { ⌜ SpotOk spot e ⌝ }
+    ensures { λ l. ⌜ l ≡ neighboursAt (now (base .entry)) e p z spot ⌝ }
+{
+    match spot {
+        Spot::Last => Link { prior: z, next: 0 },
+        Spot::After(r) => {
+            let next = next_on(base, e, r, p);
+            Link { prior: r.0, next }
+        }
+        Spot::Before(r) => {
+            let prior = prior_on(base, e, r, p);
+            Link { prior, next: r.0 }
+        }
+    }
+}
+
+// "ADDVA and ADDVB link after or before the reference on the named path, last on the others." This is path k; its master's first stands at
+// `first`.
+fn new_link(base: &[u8], e: Entry, first: usize, spot: Spot, on: usize, k: usize) -> Link
+    requires { ⌜ PointsIn e (length (now base)) ⌝ }
+    requires { ⌜ SpotOk spot e ⌝ }
+    requires { ⌜ k < e .count ⌝ }
+    requires { ⌜ first + 8 ≤ length (now base) ⌝ }
+    ensures { λ l. ⌜ l ≡ neighboursAt (now (base .entry)) e (pathOf e k) (wordAt (now (base .entry)) (first + 4)) (spotOn spot on k) ⌝ }
+{
+    let p = path_of(e, k);
+    let last = octets::word(base, first + 4);
+    if k == on {
+        return neighbours_at(base, e, p, last, spot);
+    }
+    neighbours_at(base, e, p, last, Spot::Last)
+}
+
+// The neighbours of a new record on every path.
+pub fn new_links(base: &[u8], e: Entry, ends: [usize; 4], spot: Spot, on: usize) -> [Link; 4]
+    requires { ⌜ PointsIn e (length (now base)) ⌝ }
+    requires { ⌜ EndsIn e ends (length (now base)) ⌝ }
+    requires { ⌜ SpotOk spot e ⌝ }
+    ensures { λ l. ⌜ take (e .count) l ≡ newLinks (now (base .entry)) e ends spot on ⌝ }
+{
+    let count = e.count as usize;
+    let mut links = [Link { prior: 0, next: 0 }; 4];
+    let mut k: usize = 0;
+    while k < count {
+        let first = ends[k];
+        links[k] = new_link(base, e, first, spot, on, k);
+        k += 1;
+    }
+    links
+}

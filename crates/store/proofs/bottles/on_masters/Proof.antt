@@ -1,0 +1,64 @@
+use mathlib.Core.Path.{_≡_, refl, sym, ap, _∙_}
+use native.Mathlib.Omega.{arith}
+use Rattle.terms.specs.declared.Status.the-variants.{Done}
+use Rattle.terms.specs.Laws.{status-number-one}
+use Rattle.store.specs.Kinds.{master-call}
+use Rattle.store.specs.BehindLaws.{set-refused, set-carried}
+use borrow.Author.Needs.{needs}
+use Rattle.store.proofs.bottles.on_masters.Statement.{statement}
+use Rattle.store.proofs.bottles.on_masters.Tie as tie
+
+operation-requires : tie.Need-operation-requires
+operation-requires c κs = search needs
+
+find-set-requires : tie.Need-find-set-requires
+find-set-requires c κs =
+    let p = c .before .before .before .before .before .before .pre in
+    (record { ok = p .0 .ok; fields = p .0 .fields; size = refl }, (rw (c .before .operation .ensures) (master-call (c .before .before .before .before .before .before .args .m)), p .1))
+
+number-requires : tie.Need-number-requires
+number-requires c κs = search needs
+
+ended-requires : tie.Need-ended-requires
+ended-requires c κs = search needs
+
+same-length : tie.Need-same-length
+same-length c = search needs
+
+returns : tie.Need-returns
+returns c =
+    let n = c .before .before in
+    let m = n .number .ensures in
+    set-refused _ _ _ _ _ _ _ _ (rw (c .before .before .before .before .before .operation .ensures) at (n .before .find-set .ensures)) (omega (arith, c .before .if1 .taken)) (c .ended .ensures .0) (ap (λ r. r .0) (c .ended .ensures .1))
+
+carry-out-requires : tie.Need-carry-out-requires
+carry-out-requires c κs =
+    let f = c .before .before .before .before in
+    let k = f .find-set .ensures .known (status-number-one _ Done (sym (c .before .before .before .number .ensures) ∙ c .before .before .if1 .left)) in
+    (c .before .before .before .before .before .before .before .before .before .before .before .pre .0, rw (c .before .before .before .before .before .before .operation .ensures) at k)
+
+same-length-2 : tie.Need-same-length-2
+same-length-2 c = search needs
+
+same-length-3 : tie.Need-same-length-3
+same-length-3 c = search needs
+
+returns-2 : tie.Need-returns-2
+returns-2 c =
+    let f = c .before .before .before .before .before .before .before .before .before in
+    set-carried _ _ _ _ _ _ _ _ (rw (c .before .before .before .before .before .before .before .before .before .before .before .operation .ensures) at (f .find-set .ensures)) (status-number-one _ Done (sym (c .before .before .before .before .before .before .before .before .number .ensures) ∙ c .before .before .before .before .before .before .before .if1 .left)) (c .before .before .before .before .carry-out .ensures)
+
+pub on-masters-spec : {M : Type 1} → statement M
+on-masters-spec =
+    tie.close
+    (tie.spec
+    operation-requires
+    find-set-requires
+    number-requires
+    ended-requires
+    same-length
+    returns
+    carry-out-requires
+    same-length-2
+    same-length-3
+    returns-2)

@@ -1,0 +1,31 @@
+use mathlib.Core.Path.{_≡_, refl, sym, ap, _∙_}
+use native.Mathlib.Omega.{arith}
+use Rattle.sound.specs.LinearLaws.{inPlace-sound}
+use borrow.Author.Needs.{needs}
+use Rattle.store.proofs.sign_on.Statement.{statement}
+use Rattle.store.proofs.sign_on.Tie as tie
+
+sign-on-requires : tie.Need-sign-on-requires
+sign-on-requires c κs =
+    let laid = c .before .pre in
+    (laid .ok, omega (arith, laid .size))
+
+ended-requires : tie.Need-ended-requires
+ended-requires c κs = search needs
+
+returns : tie.Need-returns
+returns c =
+    let s = c .before .before in
+    (rw (← inPlace-sound _ _ (s .before .before .pre .ok), ← s .sign-on .ensures, c .before .if1 .taken) (c .ended .ensures .0), c .ended .ensures .1)
+
+ended-requires-2 : tie.Need-ended-requires-2
+ended-requires-2 c κs = search needs
+
+returns-2 : tie.Need-returns-2
+returns-2 c =
+    let s = c .before .before in
+    (rw (← inPlace-sound _ _ (s .before .before .pre .ok), ← s .sign-on .ensures, c .before .if1 .left) (c .ended2 .ensures .0), c .ended2 .ensures .1)
+
+pub sign-on-spec : {M : Type 1} → statement M
+sign-on-spec =
+    tie.close (tie.spec sign-on-requires ended-requires returns ended-requires-2 returns-2)

@@ -1,0 +1,5 @@
+pub mod BehindLaws
+pub mod CallLaws
+pub mod DecideLaws
+pub mod Kinds
+pub mod TopLaws

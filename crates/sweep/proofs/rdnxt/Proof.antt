@@ -1,0 +1,32 @@
+use mathlib.Core.Path.{ap, _∙_}
+use borrow.Author.Needs.{needs}
+use Rattle.calls.specs.Reply.{orNone}
+use Rattle.sweep.specs.SweptLaws.{none-within, sweep-ends}
+use Rattle.sweep.proofs.rdnxt.Statement.{statement}
+use Rattle.sweep.proofs.rdnxt.Tie as tie
+
+next-live-requires : tie.Need-next-live-requires
+next-live-requires c κs = search needs
+
+or-none-requires : tie.Need-or-none-requires
+or-none-requires c κs = search needs
+
+give-requires : tie.Need-give-requires
+give-requires c κs =
+    let s = c .before .before .before .before .before in
+    let p = s .pre in
+    (p .0 .lies, (p .0 .fields, (rw (c .before .or-none .ensures) (none-within (s .args .e) _), p .1 .1)))
+
+same-length : tie.Need-same-length
+same-length c = search needs
+
+returns : tie.Need-returns
+returns c =
+    let g = c .before .before in
+    let o = g .before .before in
+    let e = o .before .before .before .before .args .e in
+    sweep-ends e _ _ _ _ (o .or-none .ensures ∙ ap (orNone e) (o .before .next-live .ensures)) (g .give .ensures)
+
+pub rdnxt-spec : {M : Type 1} → statement M
+rdnxt-spec =
+    tie.close (tie.spec next-live-requires or-none-requires give-requires same-length returns)

@@ -1,0 +1,71 @@
+// RDNXT: the live records of a set of either kind, one after the other by their numbers.
+use ends::Answer;
+use ends::give;
+use masters::scan::next_live;
+use schema::Entry;
+use schema::Schema;
+use schema::layout::entry_of;
+use terms::EntryNo;
+use terms::Operation;
+use terms::Reference;
+use terms::Status;
+ghost use mathlib.Core.Path.{_≡_};
+ghost use Prim.Native.Nat.{_*_, _%_, _≤_};
+ghost use lib.ListN.{length};
+ghost use Rattle.records.specs.Areas.{areaLength};
+ghost use Rattle.calls.specs.Reply.{orNone};
+ghost use Rattle.ends.specs.Asks.{Laid};
+ghost use Rattle.sweep.specs.Swept.{SetIn, Sweeps, SweptOn};
+
+// The set that the call speaks of, where the status is Done.
+pub struct AnySet {
+    pub status: Status,
+    pub entry: Entry,
+}
+
+// The number of an entry: there are eight at most.
+fn entry_number(i: usize) -> EntryNo
+    ensures { λ n. ⌜ n .0 ≡ i % 256 ⌝ }
+{
+    EntryNo((i % 256) as u8)
+}
+
+// 4 to 11 by form: RDNXT takes sets of both kinds, and neither its path nor its key is looked at.
+pub fn find_any(t: Schema, set: &[u8], reference: Reference, key: &[u8], area: &[u8]) -> AnySet
+    requires { ⌜ Laid t (512 * t .blocks) ⌝ }
+    requires { ⌜ length (now set) ≡ 4 ⌝ }
+    ensures { λ p. ⌜ Sweeps t (now (set .entry)) (reference .0) (now (key .entry)) (now (area .entry)) p ⌝ }
+{
+    let i = names::set_named(t, set);
+    let n = entry_number(i);
+    if names::sets(t) <= i {
+        return AnySet {
+            status: Status::Fntf,
+            entry: t.entries[0],
+        };
+    }
+    let e = entry_of(t, n);
+    let status = forms::form_status(Operation::Rdnxt, e, 0, 0, e.key, reference.0, key, area);
+    AnySet { status, entry: e }
+}
+
+// A number above R is none.
+fn or_none(e: Entry, r: u32) -> u32
+    ensures { λ q. ⌜ q ≡ orNone e r ⌝ }
+{
+    if e.records < r {
+        return 0;
+    }
+    r
+}
+
+// "RDNXT reads the next live one above the reference, 0 to begin".
+pub fn rdnxt(e: Entry, reference: Reference, area: &mut [u8], base: &[u8]) -> Answer
+    requires { ⌜ SetIn e (length (now base)) ⌝ }
+    requires { ⌜ reference .0 ≤ e .records ⌝ }
+    requires { ⌜ length (now area) ≡ areaLength e ⌝ }
+    ensures { λ a. ⌜ SweptOn e (reference .0) (now (area .entry)) (now (base .entry)) (a .status) (a .reference .0) (now (area .exit)) (now (base .entry)) ⌝ }
+{
+    let next = next_live(base, e, reference.0);
+    give(base, e, or_none(e, next), area)
+}

@@ -1,0 +1,127 @@
+//! A case in which the store and the model differ, told so that it can be run
+//! again.
+
+use std::fmt::{self, Write as _};
+use std::fs;
+use std::path::PathBuf;
+
+use yarugota_driver::{Answer, Failure};
+use yarugota_model::Status;
+use yarugota_support::vectors::fnv_1a;
+use yarugota_support::Call;
+
+use crate::Origin;
+
+/// One call, and what it came to on both sides.
+#[derive(Debug)]
+pub struct Difference {
+    pub origin: Origin,
+    pub schema: Vec<u8>,
+    /// Before the call.
+    pub base: Vec<u8>,
+    pub call: Call,
+    /// The model's answer.
+    pub expected: Answer,
+    /// The store's.
+    pub answer: Result<Answer, Failure>,
+}
+
+impl fmt::Display for Difference {
+    fn fmt(&self, f: &mut fmt::Formatter) -> fmt::Result {
+        let Origin { suite, seed, step } = self.origin;
+        writeln!(
+            f,
+            "the store and the model differ: suite {suite}, seed {seed}, step {step}"
+        )?;
+        writeln!(f, "call {}", written(&self.call))?;
+        writeln!(f, "model: {}", told(&self.expected))?;
+        match &self.answer {
+            Ok(answer) => writeln!(f, "store: {}", told(answer))?,
+            Err(failure) => writeln!(f, "store: {failure}")?,
+        }
+        writeln!(f, "again, from rust/:")?;
+        writeln!(
+            f,
+            "  cargo run --release -p yarugota-differential -- --suite {suite} --seed {seed}"
+        )?;
+        match self.write_down() {
+            Ok(file) => write!(
+                f,
+                "this call alone:\n  cargo run --release -p yarugota-differential -- --case {}",
+                file.display()
+            ),
+            Err(error) => write!(f, "the case could not be written down: {error}"),
+        }
+    }
+}
+
+impl Difference {
+    /// The case in the form of the vectors, with the model's answer.
+    pub fn vector(&self) -> String {
+        let mut after = self.base.clone();
+        let changes = self.expected.changes.iter();
+        changes.for_each(|change| change.apply(&mut after));
+        let mut text = format!("schema {}\nbase {}\n", hex(&self.schema), self.base.len());
+        if !self.base.is_empty() {
+            let _ = writeln!(text, "poke 0 {}", hex(&self.base));
+        }
+        let _ = writeln!(
+            text,
+            "call {} -> {} {} {} {:016x}",
+            written(&self.call),
+            self.expected.status,
+            self.expected.reference,
+            hex(&self.expected.area),
+            fnv_1a(&after)
+        );
+        text
+    }
+
+    /// Writes it into a file of its own and gives that file's name.
+    fn write_down(&self) -> std::io::Result<PathBuf> {
+        let Origin { suite, seed, step } = self.origin;
+        let folder = PathBuf::from(env!("CARGO_MANIFEST_DIR")).join("../target/differential");
+        fs::create_dir_all(&folder)?;
+        let file = folder
+            .canonicalize()?
+            .join(format!("{suite}-{seed}-{step}.txt"));
+        fs::write(&file, self.vector())?;
+        Ok(file)
+    }
+}
+
+/// The parameters as the vectors have them.
+fn written(call: &Call) -> String {
+    format!(
+        "{} {} {} {} {} {}",
+        hex(&call.op),
+        hex(&call.set),
+        call.reference,
+        hex(&call.path),
+        hex(&call.key),
+        hex(&call.area)
+    )
+}
+
+fn told(answer: &Answer) -> String {
+    let status = Status::ALL.get(answer.status as usize);
+    let code = status.map_or("no such status", |status| status.code());
+    let mut text = format!(
+        "{} ({code}), reference {}, area {}",
+        answer.status,
+        answer.reference,
+        hex(&answer.area)
+    );
+    for change in &answer.changes {
+        let _ = write!(text, ", at {} {}", change.offset, hex(&change.bytes));
+    }
+    text
+}
+
+/// Two digits a byte; no bytes are `-`.
+fn hex(bytes: &[u8]) -> String {
+    if bytes.is_empty() {
+        return "-".to_string();
+    }
+    bytes.iter().map(|byte| format!("{byte:02x}")).collect()
+}

@@ -1,0 +1,55 @@
+//! Builds the driver with the proved store, a program for x86-64 as the proved
+//! library is, and with the stand-in, a program for this machine.
+//!
+//! Where the proved library is missing, the first driver is not built, and
+//! whoever starts it is told so: the tests of other packages need not wait.
+
+use std::env;
+use std::path::{Path, PathBuf};
+use std::process::Command;
+
+fn main() {
+    let package = PathBuf::from(variable("CARGO_MANIFEST_DIR"));
+    let repository = package.join("../..");
+    let out = PathBuf::from(variable("OUT_DIR"));
+    let archive = repository.join("target/staticlib/libstore.a");
+    let compiler = repository.join("tools/cc-x86");
+    let runner = repository.join("tools/run-x86");
+    let (driver, stand_in) = (package.join("driver.c"), package.join("stand_in.c"));
+    let include = repository.join("include");
+    let header = include.join("yarugota.h");
+    for file in [&archive, &compiler, &driver, &stand_in, &header] {
+        println!("cargo:rerun-if-changed={}", file.display());
+    }
+    println!("cargo:rerun-if-changed=build.rs");
+
+    let mut proved = String::new();
+    if archive.exists() {
+        let program = out.join("driver");
+        run(Command::new(compiler).args([&program, &driver, &archive]));
+        proved = shown(&program);
+    }
+    let program = out.join("stand-in");
+    run(Command::new("cc")
+        .args(["-std=c11", "-O2", "-Wall", "-Wextra", "-Werror", "-I"])
+        .args([&include, &driver, &stand_in])
+        .arg("-o")
+        .arg(&program));
+    println!("cargo:rustc-env=DRIVER_PROVED={proved}");
+    println!("cargo:rustc-env=DRIVER_STAND_IN={}", shown(&program));
+    println!("cargo:rustc-env=RUN_X86={}", shown(&runner));
+}
+
+fn variable(name: &str) -> String {
+    env::var(name).expect("cargo tells a build script where it is")
+}
+
+fn shown(path: &Path) -> String {
+    path.display().to_string()
+}
+
+fn run(command: &mut Command) {
+    let status = command.status();
+    let built = status.is_ok_and(|status| status.success());
+    assert!(built, "{command:?} did not build a driver");
+}

@@ -1,0 +1,17 @@
+//! Calls the store in a process of its own.
+//!
+//! The proved library is for x86-64, and this machine may be another; so a
+//! program in C (`driver.c`) is linked with it and served through pipes, under
+//! an emulator where the processor needs one. The program hands every buffer
+//! over between guard bytes and tells what a call changed.
+//!
+//! Many calls go over in one [`Batch`]. In place of the proved store there may
+//! be a [stand-in](Store::StandIn), with which the tests themselves are tried.
+
+mod batch;
+mod faults;
+mod process;
+
+pub use batch::{Answer, Batch, Change};
+pub use faults::{faults, Fault};
+pub use process::{Driver, Failure, Store};

@@ -1,0 +1,116 @@
+//! The proved store from Rust.
+//!
+//! A data base is a buffer of bytes, and so is its schema; whoever calls owns
+//! both. [`call`] is the whole interface: one operation on one data base. It
+//! takes buffers of any length and contents, and refuses what is bad by its
+//! [`Status`].
+//!
+//! ```
+//! use yarugota::{call, Call, Operation, PathName, Reference, SetName, Status};
+//!
+//! // The small store of document 01: bottles, and points along one path.
+//! let mut schema = vec![0; 512];
+//! schema[..3].copy_from_slice(&[1, 1, 1]);
+//! schema[16..29].copy_from_slice(b"BOTL\x01\x00\x00\x04\x00\x00\x00\x05\x04");
+//! schema[64..76].copy_from_slice(b"PNTS\x02\x01\x00\x04\x00\x00\x00\x06");
+//! schema[80..82].copy_from_slice(b"PT");
+//! let words = schema.chunks(4).map(|word| u32::from_be_bytes(word.try_into().unwrap()));
+//! let check = words.fold(0, u32::wrapping_add);
+//! schema[508..].copy_from_slice(&check.to_be_bytes());
+//! let mut base = vec![0; 1024];
+//!
+//! let bottles = SetName(*b"BOTL");
+//! let points = SetName(*b"PNTS");
+//! let path = PathName(*b"BOTLLKPT");
+//!
+//! let formatted = call(&Call::new(Operation::Formt), &mut [], &schema, &mut base);
+//! assert_eq!(formatted.status, Status::Done);
+//!
+//! let bottle = Call { set: bottles, key: b"B001", ..Call::new(Operation::AddM) };
+//! let added = call(&bottle, &mut b"B001NECK".to_owned(), &schema, &mut base);
+//! assert_eq!(added.status, Status::Done);
+//!
+//! let point = Call { set: points, path, key: b"B001", ..Call::new(Operation::Addvc) };
+//! let added = call(&point, &mut b"B001p001".to_owned(), &schema, &mut base);
+//! assert_eq!(added.reference, Reference::number(1));
+//!
+//! // From the first point on.
+//! let mut area = [0; 8];
+//! let first = Call { operation: Operation::Readv, reference: path.link(), ..point };
+//! let read = call(&first, &mut area, &schema, &mut base);
+//! assert_eq!((read.reference, &area), (Reference::number(1), b"B001p001"));
+//! let next = Call { reference: read.reference, ..first };
+//! assert_eq!(call(&next, &mut area, &schema, &mut base).reference, Reference::END);
+//!
+//! // A bottle with points stays.
+//! let gone = Call { operation: Operation::DelM, ..bottle };
+//! assert_eq!(call(&gone, &mut [], &schema, &mut base).status, Status::Imdl);
+//! ```
+//!
+//! The proved library is for x86-64. On such a processor it is linked in; on
+//! another, calls go to a program of their own under an emulator, which takes
+//! longer but answers the same. Either way `rt staticlib store`, run at the
+//! repository root, must have built the library; where it has not, the first
+//! call panics and says so.
+
+mod names;
+mod operation;
+mod raw;
+mod reference;
+mod status;
+
+pub use names::{PathName, SetName};
+pub use operation::Operation;
+pub use raw::LINKED;
+pub use reference::Reference;
+pub use status::Status;
+
+/// What a call is given, apart from its buffers. A parameter that the
+/// operation does not use may hold anything.
+#[derive(Clone, Copy, Debug, PartialEq, Eq)]
+pub struct Call<'a> {
+    pub operation: Operation,
+    pub set: SetName,
+    pub reference: Reference,
+    pub path: PathName,
+    /// The control key.
+    pub key: &'a [u8],
+}
+
+impl Call<'_> {
+    /// A call with blank names, reference 0 and no key.
+    pub fn new(operation: Operation) -> Self {
+        Call {
+            operation,
+            set: SetName::BLANK,
+            reference: Reference::number(0),
+            path: PathName::BLANK,
+            key: &[],
+        }
+    }
+}
+
+/// What a call came to.
+#[derive(Clone, Copy, Debug, PartialEq, Eq)]
+pub struct Answer {
+    pub status: Status,
+    /// Of a refused call, the reference that was given.
+    pub reference: Reference,
+}
+
+/// Makes one call. A refused call leaves area and data base as they were; a
+/// read that gives a record replaces the whole area, and nothing else changes
+/// it.
+pub fn call(call: &Call, area: &mut [u8], schema: &[u8], base: &mut [u8]) -> Answer {
+    let operation = call.operation.name();
+    let (set, path) = (&call.set.0, &call.path.0);
+    let reference = call.reference.bits();
+    let answer = raw::call(
+        operation, set, reference, path, call.key, area, schema, base,
+    );
+    let status = (answer >> 32) as u32;
+    Answer {
+        status: Status::numbered(status).expect("a status of the table"),
+        reference: Reference::from_bits(answer as u32),
+    }
+}
