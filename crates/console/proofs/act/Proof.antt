@@ -1,0 +1,71 @@
+use mathlib.Core.Path.{_≡_, refl, sym, ap}
+-- `console::act` meets its contract: the line's area is copied, and none is shown.
+use native.Mathlib.Omega.{arith}
+use lib.ListN.{length, take}
+use denote.Ref.{now}
+use Rattle.octets.specs.Octets.{zeros}
+use Rattle.octets.specs.SpliceLaws.{run-splice}
+use Rattle.octets.specs.Text.{text}
+use Rattle.console.specs.ConsoleLaws.{replied}
+use borrow.Author.Needs.{needs}
+use Rattle.console.proofs.act.Statement.{statement}
+use Rattle.console.proofs.act.Tie as tie
+
+slice-aggregate-copy-in : tie.Need-slice-aggregate-copy-in
+slice-aggregate-copy-in c = search needs
+
+copy-in-requires : tie.Need-copy-in-requires
+copy-in-requires c κs = search needs
+
+array-borrow-prefix-area : tie.Need-array-borrow-prefix-area
+array-borrow-prefix-area c = search needs
+
+-- what is lent is the line's area
+whole : (c : tie.After-copy-in)
+    → let given = now (c .before .before .before .before .before .before .args .given) in
+    take (length given) (c .copy-in .last .0) ≡ given
+whole c =
+    let s = c .before .before .before .before .before .before in
+    rw (c .copy-in .ensures) (run-splice (zeros 128) 0 (now (s .args .given)) (omega (arith, s .pre .1)))
+
+slice-aggregate-call : tie.Need-slice-aggregate-call
+slice-aggregate-call c = ap length (sym (whole (c .before .before)))
+
+call-requires : tie.Need-call-requires
+call-requires c κs = search needs
+
+answer-requires : tie.Need-answer-requires
+answer-requires c κs = search needs
+
+slice-aggregate-finish : tie.Need-slice-aggregate-finish
+slice-aggregate-finish c = search needs
+
+finish-requires : tie.Need-finish-requires
+finish-requires c κs = search needs
+
+same-length : tie.Need-same-length
+same-length c = search needs
+
+returns : tie.Need-returns
+returns c =
+    let a = c .before .before .before in
+    let k = a .before .before .before .before .before .before in
+    let d = k .before .before .before .before in
+    let s = d .before .before .before .before .before .before in
+    replied (s .args .number) _ (a .answer .result) (now (s .args .op)) (a .answer .last .0) _ (text "-") (rw (whole d) at (k .call .ensures))
+    (rw (s .pre .0) refl) (a .answer .ensures .1) (c .finish .ensures .0) (c .finish .ensures .1)
+
+pub act-spec : {M : Type 1} → statement M
+act-spec =
+    tie.close
+    (tie.spec
+    slice-aggregate-copy-in
+    copy-in-requires
+    array-borrow-prefix-area
+    slice-aggregate-call
+    call-requires
+    answer-requires
+    slice-aggregate-finish
+    finish-requires
+    same-length
+    returns)

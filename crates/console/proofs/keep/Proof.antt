@@ -1,0 +1,29 @@
+-- `console::keep` meets its contract: a line that is full already stays as it is.
+use native.Mathlib.Omega.{arith}
+use denote.Ref.{now}
+use Rattle.console.specs.SmallLaws.{kept-more, kept-full}
+use borrow.Author.Needs.{needs}
+use Rattle.console.proofs.keep.Statement.{statement}
+use Rattle.console.proofs.keep.Tie as tie
+
+returns : tie.Need-returns
+returns c =
+    let s = c .before in
+    record { fits = omega arith; bytes = kept-full (now (s .args .line)) (s .args .n) (s .args .byte) (s .pre .0) (c .if1 .taken) }
+
+slice-write-line : tie.Need-slice-write-line
+slice-write-line c = search needs
+
+add-result : tie.Need-add-result
+add-result c = search needs
+
+same-length : tie.Need-same-length
+same-length c = search needs
+
+returns-2 : tie.Need-returns-2
+returns-2 c =
+    let s = c .before in
+    record { fits = omega arith; bytes = kept-more (now (s .args .line)) (s .args .n) (s .args .byte) (s .pre .0) (omega arith) }
+
+pub keep-spec : {M : Type 1} → statement M
+keep-spec = tie.close (tie.spec returns slice-write-line add-result same-length returns-2)

@@ -1,0 +1,24 @@
+-- `console::printer::answer` meets its contract: each text stands behind the one before.
+use mathlib.Core.Path.{refl}
+use native.Mathlib.Omega.{arith}
+use borrow.Author.Needs.{needs}
+use Rattle.console.proofs.printer.answer.Statement.{statement}
+use Rattle.console.proofs.printer.answer.Tie as tie
+
+code-requires : tie.Need-code-requires
+code-requires c κs = search needs
+
+start-requires : tie.Need-start-requires
+start-requires c κs = search needs
+
+put-reference-requires : tie.Need-put-reference-requires
+put-reference-requires c κs = search needs
+
+returns : tie.Need-returns
+returns c =
+    let s = c .before .before in
+    let k = s .before .before .before in
+    (omega (arith, c .put-reference .ensures .0, s .start .ensures .0), rw (c .put-reference .ensures .1, s .start .ensures .1, k .code .ensures) refl)
+
+pub answer-spec : {M : Type 1} → statement M
+answer-spec = tie.close (tie.spec code-requires start-requires put-reference-requires returns)

@@ -1,0 +1,24 @@
+-- `console::printer::put` meets its contract: what is stored stands behind what stood there.
+use mathlib.Core.Path.{_≡_, refl}
+use native.Mathlib.Omega.{arith}
+use lib.ListN.{length}
+use denote.Ref.{now}
+use Rattle.console.specs.PrinterLaws.{take-splice}
+use borrow.Author.Needs.{needs}
+use Rattle.console.proofs.printer.put.Statement.{statement}
+use Rattle.console.proofs.printer.put.Tie as tie
+
+copy-in-requires : tie.Need-copy-in-requires
+copy-in-requires c κs = search needs
+
+add-result : tie.Need-add-result
+add-result c = search needs
+
+returns : tie.Need-returns
+returns c =
+    let a = c .before .before .before .args in
+    let f : length (now (a .out)) ≡ 64 = search needs in
+    (refl, rw (c .copy-in .ensures) (take-splice (now (a .out)) (a .at) (now (a .src)) (omega arith)))
+
+pub put-spec : {M : Type 1} → statement M
+put-spec = tie.close (tie.spec copy-in-requires add-result returns)

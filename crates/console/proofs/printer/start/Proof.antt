@@ -1,0 +1,48 @@
+-- `console::printer::start` meets its contract: each text stands behind the one before.
+use mathlib.Core.Path.{_≡_}
+use native.Mathlib.Omega.{arith}
+use lib.ListN.{length}
+use denote.Ref.{now}
+use borrow.Author.Needs.{needs}
+use Rattle.console.proofs.printer.start.Statement.{statement}
+use Rattle.console.proofs.printer.start.Tie as tie
+
+put-decimal-requires : tie.Need-put-decimal-requires
+put-decimal-requires c κs = search needs
+
+slice-aggregate-put : tie.Need-slice-aggregate-put
+slice-aggregate-put c = search needs
+
+put-requires : tie.Need-put-requires
+put-requires c κs = search needs
+
+put-requires-2 : tie.Need-put-requires-2
+put-requires-2 c κs = search needs
+
+slice-aggregate-put-2 : tie.Need-slice-aggregate-put-2
+slice-aggregate-put-2 c = search needs
+
+put-requires-3 : tie.Need-put-requires-3
+put-requires-3 c κs = search needs
+
+returns : tie.Need-returns
+returns c =
+    let d = c .before .before .before in
+    let b = d .before .before .before in
+    let a = b .before .before .before in
+    let four : length (now (a .before .before .args .code)) ≡ 4 = search needs in (
+      omega (arith, c .put3 .ensures .0, d .put2 .ensures .0, b .put .ensures .0, a .put-decimal .ensures .0),
+      rw (c .put3 .ensures .1, d .put2 .ensures .1, b .put .ensures .1, a .put-decimal .ensures .1),
+    )
+
+pub start-spec : {M : Type 1} → statement M
+start-spec =
+    tie.close
+    (tie.spec
+    put-decimal-requires
+    slice-aggregate-put
+    put-requires
+    put-requires-2
+    slice-aggregate-put-2
+    put-requires-3
+    returns)

@@ -1,0 +1,10 @@
+pub mod Lines
+pub mod References
+pub mod Console
+pub mod Session
+pub mod LineLaws
+pub mod ReferenceLaws
+pub mod PrinterLaws
+pub mod ConsoleLaws
+pub mod SmallLaws
+pub mod Listing

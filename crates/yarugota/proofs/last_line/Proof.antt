@@ -1,0 +1,26 @@
+-- `yarugota::last_line` meets its contract.
+use mathlib.Core.Path.{sym}
+use native.Mathlib.Omega.{arith}
+use lib.Seq.{length-take-le}
+use borrow.Author.Needs.{needs}
+use Rattle.yarugota.proofs.last_line.Statement.{statement}
+use Rattle.yarugota.proofs.last_line.Tie as tie
+
+slice-aggregate-end-line : tie.Need-slice-aggregate-end-line
+slice-aggregate-end-line c = sym (length-take-le _ _ (omega arith))
+
+end-line-requires : tie.Need-end-line-requires
+end-line-requires c κs = search needs
+
+same-length : tie.Need-same-length
+same-length c = search needs
+
+returns : tie.Need-returns
+returns c = search needs
+
+returns-2 : tie.Need-returns-2
+returns-2 c = search needs
+
+pub last-line-spec : {M : Type 1} → statement M
+last-line-spec =
+    tie.close (tie.spec slice-aggregate-end-line end-line-requires same-length returns returns-2)

@@ -1,0 +1,52 @@
+-- `yarugota::take_byte` meets its contract.
+use mathlib.Core.Path.{sym}
+use native.Mathlib.Omega.{arith}
+use lib.Seq.{length-take-le}
+use borrow.Author.Needs.{needs}
+use Rattle.yarugota.proofs.take_byte.Statement.{statement}
+use Rattle.yarugota.proofs.take_byte.Tie as tie
+
+slice-reshare-prefix-end-line : tie.Need-slice-reshare-prefix-end-line
+slice-reshare-prefix-end-line c = search needs
+
+slice-aggregate-end-line : tie.Need-slice-aggregate-end-line
+slice-aggregate-end-line c = sym (length-take-le _ _ (omega arith))
+
+end-line-requires : tie.Need-end-line-requires
+end-line-requires c κs = search needs
+
+wrapping-add-u64-requires : tie.Need-wrapping-add-u64-requires
+wrapping-add-u64-requires c κs = search needs
+
+same-length : tie.Need-same-length
+same-length c = search needs
+
+same-length-2 : tie.Need-same-length-2
+same-length-2 c = search needs
+
+returns : tie.Need-returns
+returns c = search needs
+
+keep-requires : tie.Need-keep-requires
+keep-requires c κs = search needs
+
+same-length-3 : tie.Need-same-length-3
+same-length-3 c = search needs
+
+returns-2 : tie.Need-returns-2
+returns-2 c = search needs
+
+pub take-byte-spec : {M : Type 1} → statement M
+take-byte-spec =
+    tie.close
+    (tie.spec
+    slice-reshare-prefix-end-line
+    slice-aggregate-end-line
+    end-line-requires
+    wrapping-add-u64-requires
+    same-length
+    same-length-2
+    returns
+    keep-requires
+    same-length-3
+    returns-2)

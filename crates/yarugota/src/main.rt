@@ -1,0 +1,126 @@
+// Document 01's program: it formats the small store, makes the call of each line of standard input, and prints the answers. What a line
+// does and prints is proved in the crate `console`; here bytes are read, cut into lines, and written.
+ghost use mathlib.Core.Path.{_≡_};
+ghost use Prim.Native.Nat.{_≤_};
+ghost use lib.ListN.{length};
+
+// The line that is being read: its number, and how many of its bytes are kept.
+struct Place {
+    number: u64,
+    len: usize,
+}
+
+// Writes what is printed.
+fn print(out: &[u8], n: usize)
+    requires { ⌜ n ≤ length (now out) ⌝ }
+{
+    io::write_all(1, &out[..n]);
+}
+
+// Answers a line, by way of a buffer.
+fn answer(number: u64, line: &[u8], schema: &[u8], base: &mut [u8], out: &mut [u8; 64]) {
+    let n = console::respond(number, line, schema, base, out);
+    print(out, n);
+}
+
+fn end_line(number: u64, line: &[u8], schema: &[u8], base: &mut [u8]) {
+    let mut out = [0u8; 64];
+    answer(number, line, schema, base, &mut out);
+}
+
+// Takes one byte: a newline ends the line, any other byte is kept.
+fn take_byte(place: Place, byte: u8, line: &mut [u8], schema: &[u8], base: &mut [u8]) -> Place
+    requires { ⌜ (length (now line) ≡ 129) × (place .len ≤ 129) ⌝ }
+    ensures { λ r. ⌜ r .len ≤ 129 ⌝ }
+{
+    let number = place.number;
+    let len = place.len;
+    if byte == 10 {
+        end_line(number, &line[..len], schema, base);
+        let next = std::num::wrapping_add_u64(number, 1);
+        return Place {
+            number: next,
+            len: 0,
+        };
+    }
+    let more = console::keep(line, len, byte);
+    Place {
+        number: number,
+        len: more,
+    }
+}
+
+// Takes the bytes of one read.
+fn take_bytes(place: Place, bytes: &[u8], line: &mut [u8], schema: &[u8], base: &mut [u8]) -> Place
+    requires { ⌜ (length (now line) ≡ 129) × (place .len ≤ 129) ⌝ }
+    ensures { λ r. ⌜ r .len ≤ 129 ⌝ }
+{
+    let mut at = place;
+    let mut i = 0;
+    while i < bytes.len() {
+        at = take_byte(at, bytes[i], line, schema, base);
+        i += 1;
+    }
+    at
+}
+
+// What one read brought.
+struct Turn {
+    place: Place,
+    more: bool,
+}
+
+// Reads once.
+fn read_once(place: Place, line: &mut [u8], schema: &[u8], base: &mut [u8]) -> Turn
+    requires { ⌜ (length (now line) ≡ 129) × (place .len ≤ 129) ⌝ }
+    ensures { λ r. ⌜ r .place .len ≤ 129 ⌝ }
+{
+    let mut buffer = io::buffer();
+    let got = libc::read(0, &mut buffer);
+    let n = io::count(got, &buffer);
+    let more = n != 0;
+    let next = take_bytes(place, &buffer[..n], line, schema, base);
+    Turn {
+        place: next,
+        more: more,
+    }
+}
+
+// Reads to the end of the input. A proved loop has to end, and nothing says that the input does: so it counts its turns down, from a
+// number that no run uses up.
+fn read_all(line: &mut [u8], schema: &[u8], base: &mut [u8]) -> Place
+    requires { ⌜ length (now line) ≡ 129 ⌝ }
+    ensures { λ r. ⌜ r .len ≤ 129 ⌝ }
+{
+    let mut place = Place { number: 1, len: 0 };
+    let mut turns = u64::MAX;
+    while 0 < turns {
+        let t = read_once(place, line, schema, base);
+        place = t.place;
+        if !t.more {
+            return place;
+        }
+        turns -= 1;
+    }
+    place
+}
+
+// A last line without newline counts; nothing after the last newline is no line.
+fn last_line(place: Place, line: &[u8], schema: &[u8], base: &mut [u8])
+    requires { ⌜ (length (now line) ≡ 129) × (place .len ≤ 129) ⌝ }
+{
+    let number = place.number;
+    let len = place.len;
+    if len != 0 {
+        end_line(number, &line[..len], schema, base);
+    }
+}
+
+fn main() {
+    let schema = console::small::schema();
+    let mut base = [0u8; 1024];
+    console::small::format(&schema, &mut base);
+    let mut line = [0u8; 129];
+    let place = read_all(&mut line, &schema, &mut base);
+    last_line(place, &line, &schema, &mut base);
+}
