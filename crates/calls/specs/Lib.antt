@@ -9,3 +9,4 @@ pub mod LadderLaws
 pub mod OutcomeLaws
 pub mod BytesLaws
 pub mod RestLaws
+pub mod SceneLaws

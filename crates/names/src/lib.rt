@@ -3,9 +3,10 @@ use schema::Entry;
 use schema::Path;
 use schema::Schema;
 use schema::layout;
+use terms::EntryNo;
 use terms::Reference;
 ghost use mathlib.Core.Path.{_≡_};
-ghost use Prim.Native.Nat.{_<_};
+ghost use Prim.Native.Nat.{_%_, _<_};
 ghost use lib.ListN.{length};
 ghost use Rattle.octets.specs.Octets.{sameBytes};
 ghost use Rattle.terms.specs.Terms.{linkRef};
@@ -19,6 +20,13 @@ pub fn sets(t: Schema) -> usize
     ensures { λ n. ⌜ n ≡ setCount t ⌝ }
 {
     (t.masters as usize) + (t.variables as usize)
+}
+
+// The number of the i-th entry: there are eight at most.
+pub fn entry_number(i: usize) -> EntryNo
+    ensures { λ n. ⌜ n .0 ≡ i % 256 ⌝ }
+{
+    EntryNo((i % 256) as u8)
 }
 
 // The number of the set of that name; the number of sets where there is none.

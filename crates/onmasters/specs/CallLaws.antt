@@ -27,6 +27,7 @@ use Rattle.masters.specs.Find.{find, homeIn}
 use Rattle.masters.specs.Root.{addMasterFull, addMasterDamaged, addMasterStores, delMasterDamaged, delMasterStores}
 use Rattle.chains.specs.Chains.{hasPoints}
 use Rattle.roots.specs.Status.{addMasterStatus, delMasterStatus}
+use Rattle.calls.specs.SceneLaws.{schema-here, operation-here}
 use Rattle.calls.specs.Call.{Call}
 use Rattle.calls.specs.Scene.{Scene, sceneUnder}
 use Rattle.calls.specs.Reply.{masterIn, homeOfKey, given, referenceAfter, areaAfter, storesOf, baseAfter}
@@ -36,7 +37,7 @@ use Rattle.calls.specs.Answer.{firstOf, answered, restTests}
 use Rattle.calls.specs.RestLaws.{storable, rest-readm, rest-writm, rest-addm, rest-delm, rest-rqloc}
 use Rattle.ends.specs.Ends.{Ends, gave, gave-answers, settled, settled-answers}
 use Rattle.onmasters.specs.Masters.{NamedCall, AnswersOn, AnswersIn, BodyAt}
-use Rattle.onmasters.specs.MasterLaws.{readm-call, writm-call, delm-call, operation-here, schema-here, seek-none, found-is, damage-ends, missing-ends, ends-as, ends-left, add-damage-ends, there-ends, add-ends-as}
+use Rattle.onmasters.specs.MasterLaws.{readm-call, writm-call, delm-call, seek-none, found-is, damage-ends, missing-ends, ends-as, ends-left, add-damage-ends, there-ends, add-ends-as}
 
 -- what the search in the code found is what the search for the key finds
 pub told-found : {f : Found} (b : List ℕ) (e : Entry) (key k : List ℕ) (g : Found) → f ≡ find b e k → k ≡ key → f ≡ g → find b e key ≡ g

@@ -22,6 +22,7 @@ use Rattle.records.specs.Areas.{isMaster}
 use Rattle.masters.specs.declared.Found.{Found}
 use Rattle.masters.specs.declared.Found.the-variants.{At, Missing, Damaged}
 use Rattle.masters.specs.Find.{find, isAt, isMissing, isDamaged}
+use Rattle.calls.specs.SceneLaws.{operation-here, number-here, entry-here, found-here}
 use Rattle.calls.specs.Call.{Call, Outcome}
 use Rattle.calls.specs.Scene.{sceneUnder, setNamed}
 use Rattle.calls.specs.Ladder.{refusal, wrongKind}
@@ -40,14 +41,6 @@ or-none true s t = refl
 or-none false s t = refl
 
 -- the set of the call's name
-pub number-here : (t : Schema) (c : Call) → sceneUnder t c .number ≡ setNamed t (c .name)
-unfolding sceneUnder
-number-here t c = refl
-
-pub entry-here : (t : Schema) (c : Call) → sceneUnder t c .entry ≡ entryOf t (setNamed t (c .name))
-unfolding sceneUnder
-entry-here t c = refl
-
 module _ (t : Schema) (c : Call) (o : Operation) (k : MasterCall o) (q : operationOf (c .operation) ≡ o) where
   -- 4 and 5
   pub place-masters : refusal (placeTests (sceneUnder t c) c)
@@ -133,18 +126,6 @@ master-in t i n e h l w =
     rw w (record { lies = lies i (h .ok) (omega arith) (h .size); fields = h .fields i (omega arith); ok = one; some = set .some; sized = omega (arith, set .sized, one .room) })
 
 -- ---- the master
-
-pub found-here : (t : Schema) (c : Call) → sceneUnder t c .found ≡ find (c .base) (sceneUnder t c .masters) (c .key)
-unfolding sceneUnder
-found-here t c = refl
-
-pub schema-here : (t : Schema) (c : Call) → sceneUnder t c .schema ≡ t
-unfolding sceneUnder
-schema-here t c = refl
-
-pub operation-here : (t : Schema) (c : Call) → sceneUnder t c .operation ≡ operationOf (c .operation)
-unfolding sceneUnder
-operation-here t c = refl
 
 module _ (t : Schema) (c : Call) (o : Operation) (k : NamedCall o) (q : operationOf (c .operation) ≡ o) where
   -- "find the named master (16, then 12 ..)"

@@ -5,6 +5,7 @@ use ends::give;
 use ends::settle;
 use masters::Found;
 use masters::walk;
+use names::entry_number;
 use plans::Head;
 use plans::Plan;
 use plans::Planned;
@@ -22,7 +23,7 @@ use terms::Reference;
 use terms::Status;
 ghost use mathlib.Core.Path.{_≡_};
 ghost use mathlib.Core.List.{List};
-ghost use Prim.Native.Nat.{ℕ, _*_, _%_, _≤_, _<_};
+ghost use Prim.Native.Nat.{ℕ, _*_, _≤_, _<_};
 ghost use lib.ListN.{length};
 ghost use Rattle.terms.specs.declared.Operation.the-variants.{AddM, DelM, Readm, Writm, Rqloc};
 ghost use Rattle.schema.specs.Decode.{entryOf};
@@ -36,13 +37,6 @@ pub struct Placed {
     pub status: Status,
     pub number: EntryNo,
     pub entry: Entry,
-}
-
-// The number of an entry: there are eight at most.
-fn entry_number(i: usize) -> EntryNo
-    ensures { λ n. ⌜ n .0 ≡ i % 256 ⌝ }
-{
-    EntryNo((i % 256) as u8)
 }
 
 // 4 to 11 by form, of a call on masters.

@@ -19,6 +19,7 @@ use Rattle.schema.specs.Place.{InSet}
 use Rattle.masters.specs.declared.Found.the-variants.{At}
 use Rattle.chains.specs.Chains.{readDamaged, badNeighbour, unevenEnds}
 use Rattle.chains.specs.SideLaws.{neighbour-ok}
+use Rattle.calls.specs.SceneLaws.{operation-here}
 use Rattle.calls.specs.Call.{Call, oneOf}
 use Rattle.calls.specs.Scene.{Scene, sceneUnder}
 use Rattle.calls.specs.Reply.{linkOf, masterIn, orEnd, given, referenceAfter, storesOf}
@@ -29,7 +30,7 @@ use Rattle.ends.specs.Ends.{Ends, gave, gave-answers}
 use Rattle.ends.specs.Asks.{Asks}
 use Rattle.onpoints.specs.OnPath.{PointCall, readBy, looksAt, OnPath, seekStatus, Seen, pointerOn, AnswersOnPath}
 use Rattle.onpoints.specs.PathLaws.{readv-call, readr-call, readd-call}
-use Rattle.onpoints.specs.SeekLaws.{operation-here, found-is, ends-as, rest-refuses}
+use Rattle.onpoints.specs.SeekLaws.{found-is, ends-as, rest-refuses}
 
 -- ---- READD
 

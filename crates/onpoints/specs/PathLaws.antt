@@ -29,6 +29,7 @@ use Rattle.records.specs.Areas.{isMaster, areaLength, areaKeyOn}
 use Rattle.masters.specs.FindLaws.{inSet-true}
 use Rattle.chains.specs.Points.{mastersOn}
 use Rattle.points.specs.VariableIn.{PointsIn, variable-in}
+use Rattle.calls.specs.SceneLaws.{number-here, entry-here, on-here, path-here}
 use Rattle.calls.specs.Call.{Call}
 use Rattle.calls.specs.Scene.{sceneUnder, setNamed, pathNamed}
 use Rattle.calls.specs.Ladder.{refusal, wrongKind, blankAreaKey, otherAreaKey}
@@ -121,23 +122,6 @@ module _ (o : Operation) (e : Entry) (on link k ref : ℕ) (key area : List ℕ)
       inSet-true e ref (asked (rungsOf o .number) _ h (passed (rungsOf o .number && not (inSet e ref)) Ivrp Done (omega arith) (r .1) .0))
 
 -- ---- the scene
-
-module _ (t : Schema) (c : Call) where
-  pub number-here : sceneUnder t c .number ≡ setNamed t (c .name)
-  unfolding sceneUnder
-  number-here = refl
-
-  pub entry-here : sceneUnder t c .entry ≡ entryOf t (setNamed t (c .name))
-  unfolding sceneUnder
-  entry-here = refl
-
-  pub on-here : sceneUnder t c .on ≡ pathNamed t (entryOf t (setNamed t (c .name))) (c .path)
-  unfolding sceneUnder
-  on-here = refl
-
-  pub path-here : sceneUnder t c .path ≡ pathOf (entryOf t (setNamed t (c .name))) (pathNamed t (entryOf t (setNamed t (c .name))) (c .path))
-  unfolding sceneUnder
-  path-here = refl
 
 module _ (t : Schema) (c : Call) (o : Operation) (k : PointCall o) (q : operationOf (c .operation) ≡ o) where
   abbrev set : Entry

@@ -22,6 +22,7 @@ use Rattle.records.specs.Records.{isLive, keyOn}
 use Rattle.masters.specs.declared.Found.the-variants.{At, Missing, Damaged}
 use Rattle.masters.specs.Find.{find, isMissing, isDamaged}
 use Rattle.chains.specs.Chains.{isPointOf}
+use Rattle.calls.specs.SceneLaws.{operation-here, found-here}
 use Rattle.calls.specs.Call.{Call, Outcome}
 use Rattle.calls.specs.Scene.{sceneUnder}
 use Rattle.calls.specs.Ladder.{refusal, isLink}
@@ -81,19 +82,6 @@ seen-key b e p x r key m h =
     sameBytes-eq (keyOn b e r p) key (and-eq-true-iff (isLive b e r) (sameBytes (keyOn b e r p) key) .0 (seen-point b e p x r key m h) .1)
 
 -- ---- the ladder
-
-module _ (t : Schema) (c : Call) where
-  pub found-here : sceneUnder t c .found ≡ find (c .base) (sceneUnder t c .masters) (c .key)
-  unfolding sceneUnder
-  found-here = refl
-
-  pub operation-here : sceneUnder t c .operation ≡ operationOf (c .operation)
-  unfolding sceneUnder
-  operation-here = refl
-
-  pub schema-here : sceneUnder t c .schema ≡ t
-  unfolding sceneUnder
-  schema-here = refl
 
 -- the two tests of the referenced record in one: `a` for the calls that take LKxx, which it is where `i`, and `n` for those that do not
 both : (a i n p : Bool) → cond (a && (not i && not p)) Ivrp (cond (n && not p) Ivrp Done) ≡ cond ((n || a && not i) && not p) Ivrp Done

@@ -30,6 +30,7 @@ use Rattle.chains.specs.declared.Spot.{Spot}
 use Rattle.chains.specs.declared.Spot.the-variants.{Last, After, Before}
 use Rattle.chains.specs.Points.{findOn, addStores, delStores}
 use Rattle.points.specs.Rest.{addStatus, delStatus}
+use Rattle.calls.specs.SceneLaws.{schema-here, operation-here}
 use Rattle.calls.specs.Call.{Call, oneOf}
 use Rattle.calls.specs.Scene.{Scene, sceneUnder}
 use Rattle.calls.specs.Reply.{spotOf, orLink, given, referenceAfter, areaAfter, storesOf}
@@ -40,7 +41,7 @@ use Rattle.ends.specs.Ends.{Ends, isDone, settled, settled-answers}
 use Rattle.ends.specs.Asks.{Asks}
 use Rattle.onpoints.specs.OnPath.{PointCall, addAt, OnPath, ReachedIn, Seen, Spotted, BodyPlan, AnswersOnPath, AnswersUnder}
 use Rattle.onpoints.specs.PathLaws.{writv-call, addvc-call, addvb-call, addva-call, delvd-call}
-use Rattle.onpoints.specs.SeekLaws.{seen-key, operation-here, schema-here, ends-as, rest-refuses}
+use Rattle.onpoints.specs.SeekLaws.{seen-key, ends-as, rest-refuses}
 use Rattle.onpoints.specs.OtherLaws.{addable, deletable, rest-addvc, rest-addvb, rest-addva, rest-delvd}
 
 -- ---- the reference that is returned counts only where the call is done

@@ -6,6 +6,7 @@ use ends::give;
 use ends::settle;
 use masters::Found;
 use masters::walk;
+use names::entry_number;
 use plans::Head;
 use plans::Plan;
 use plans::Planned;
@@ -31,7 +32,7 @@ use terms::Status;
 ghost use mathlib.Core.Path.{_≡_};
 ghost use mathlib.Core.Bool.{true, false, not};
 ghost use mathlib.Core.Logic.{_⊎_};
-ghost use Prim.Native.Nat.{_*_, _%_, _≤_, _<_};
+ghost use Prim.Native.Nat.{_*_, _≤_, _<_};
 ghost use lib.Dec.{eqb};
 ghost use lib.ListN.{length};
 ghost use Rattle.terms.specs.Terms.{keyOf};
@@ -63,13 +64,6 @@ pub struct Sighted {
 }
 
 // ---- set and path
-
-// The number of an entry: there are eight at most.
-fn entry_number(i: usize) -> EntryNo
-    ensures { λ n. ⌜ n .0 ≡ i % 256 ⌝ }
-{
-    EntryNo((i % 256) as u8)
-}
 
 // LKxx of the path.
 pub fn link_of(p: Path) -> u32

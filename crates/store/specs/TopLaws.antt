@@ -18,6 +18,7 @@ use Rattle.schema.specs.Decode.{schemaOf}
 use Rattle.schema.specs.Layout.{keepsRules}
 use Rattle.plans.specs.Plan.{storeAll, sealAll, committed, formatted}
 use Rattle.sound.specs.Sound.{sound}
+use Rattle.calls.specs.SceneLaws.{schema-here, operation-here}
 use Rattle.calls.specs.Call.{Call, Outcome, oneOf}
 use Rattle.calls.specs.Scene.{Scene, sceneUnder}
 use Rattle.calls.specs.Ladder.{refusal, wrongKind, generalTests, ladder}
@@ -45,20 +46,12 @@ module _ (t : Schema) (c : Call) (kept : keepsRules (c .schema) ≡ true) (here 
   unfolding outcome outcomeIn answered
   outcome-under = rw here refl
 
-  schema-here : sceneUnder t c .schema ≡ t
-  unfolding sceneUnder
-  schema-here = refl
-
-  operation-is : sceneUnder t c .operation ≡ operationOf (c .operation)
-  unfolding sceneUnder
-  operation-is = refl
-
   -- 2
   pub size-ends : (length (c .base) ≡ t .blocks * 512 → ⊥) → Ends (outcome c) Size (c .reference) (c .area) (c .base)
   unfolding ladder refusal
   size-ends h =
       rw outcome-under
-      (refused-ends (sceneUnder t c) c _ Size (rw (kept, schema-here, ne-eqb (length (c .base)) (t .blocks * 512) h) refl) (omega arith))
+      (refused-ends (sceneUnder t c) c _ Size (rw (kept, schema-here t c, ne-eqb (length (c .base)) (t .blocks * 512) h) refl) (omega arith))
 
   module _ (sized : length (c .base) ≡ t .blocks * 512) where
     -- 3
@@ -66,11 +59,11 @@ module _ (t : Schema) (c : Call) (kept : keepsRules (c .schema) ≡ true) (here 
     unfolding ladder refusal
     unknown-ends e =
         rw outcome-under
-        (refused-ends (sceneUnder t c) c _ Func (rw (kept, schema-here, eq-eqb (length (c .base)) (t .blocks * 512) sized, operation-is, e) refl) (omega arith))
+        (refused-ends (sceneUnder t c) c _ Func (rw (kept, schema-here t c, eq-eqb (length (c .base)) (t .blocks * 512) sized, operation-here t c, e) refl) (omega arith))
 
     general-pass : oneOf (operationOf (c .operation)) (Unknown ∷ []) ≡ false → refusal (generalTests (sceneUnder t c) c) ≡ Done
     unfolding refusal
-    general-pass e = rw (kept, schema-here, eq-eqb (length (c .base)) (t .blocks * 512) sized, operation-is, e) refl
+    general-pass e = rw (kept, schema-here t c, eq-eqb (length (c .base)) (t .blocks * 512) sized, operation-here t c, e) refl
 
     -- the rest is behind the general tests
     pub outcome-behind : oneOf (operationOf (c .operation)) (Unknown ∷ []) ≡ false → outcome c ≡ behind t c
@@ -84,18 +77,18 @@ module _ (t : Schema) (c : Call) (kept : keepsRules (c .schema) ≡ true) (here 
     format-answers : operationOf (c .operation) ≡ Formt
         → behind t c ≡ record { status = Done; reference = c .reference; area = c .area; base = formatted (t .blocks) }
     unfolding behind refusal answered done referenceAfter areaAfter given baseAfter
-    format-answers e = rw (rest-formt (sceneUnder t c) c (operation-is ∙ e), operation-is, e, schema-here) refl
+    format-answers e = rw (rest-formt (sceneUnder t c) c (operation-here t c ∙ e), operation-here t c, e, schema-here t c) refl
 
     pub format-ends : operationOf (c .operation) ≡ Formt → Ends (outcome c) Done (c .reference) (c .area) (formatted (t .blocks))
     format-ends e = rw (outcome-behind (rw e refl), format-answers e) (record { status = refl; reference = refl; area = refl; base = refl })
 
     sign-on-answers : operationOf (c .operation) ≡ Sinon → behind t c ≡ answered (sceneUnder t c) c (cond (not (sound t (c .base))) Damg Done)
     unfolding behind refusal
-    sign-on-answers e = ap (answered (sceneUnder t c) c) (rw (rest-sinon (sceneUnder t c) c (operation-is ∙ e), operation-is, e, schema-here) refl)
+    sign-on-answers e = ap (answered (sceneUnder t c) c) (rw (rest-sinon (sceneUnder t c) c (operation-here t c ∙ e), operation-here t c, e, schema-here t c) refl)
 
     sound-answers : operationOf (c .operation) ≡ Sinon → answered (sceneUnder t c) c Done ≡ record { status = Done; reference = c .reference; area = c .area; base = c .base }
     unfolding answered done referenceAfter areaAfter given baseAfter storesOf committed storeAll sealAll
-    sound-answers e = rw (operation-is, e) refl
+    sound-answers e = rw (operation-here t c, e) refl
 
     pub sound-ends : operationOf (c .operation) ≡ Sinon → sound t (c .base) ≡ true → Ends (outcome c) Done (c .reference) (c .area) (c .base)
     sound-ends e s = rw (outcome-behind (rw e refl), sign-on-answers e, s, sound-answers e) (record { status = refl; reference = refl; area = refl; base = refl })

@@ -20,6 +20,7 @@ use Rattle.schema.specs.Guarantee.{SchemaOk}
 use Rattle.schema.specs.GuaranteeLaws.{lies}
 use Rattle.records.specs.Records.{isLive}
 use Rattle.records.specs.Areas.{areaLength}
+use Rattle.calls.specs.SceneLaws.{entry-here}
 use Rattle.calls.specs.Call.{Call}
 use Rattle.calls.specs.Scene.{Scene, sceneUnder, setNamed}
 use Rattle.calls.specs.Ladder.{refusal, wrongKind}
@@ -60,10 +61,6 @@ module _ (t : Schema) (c : Call) (q : operationOf (c .operation) ≡ Rdnxt) wher
   operation-here : sceneUnder t c .operation ≡ Rdnxt
   unfolding sceneUnder
   operation-here = q
-
-entry-here : (t : Schema) (c : Call) → sceneUnder t c .entry ≡ entryOf t (setNamed t (c .name))
-unfolding sceneUnder
-entry-here t c = refl
 
 -- ---- what is known of the set
 

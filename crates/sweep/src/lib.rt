@@ -2,6 +2,7 @@
 use ends::Answer;
 use ends::give;
 use masters::scan::next_live;
+use names::entry_number;
 use schema::Entry;
 use schema::Schema;
 use schema::layout::entry_of;
@@ -10,7 +11,7 @@ use terms::Operation;
 use terms::Reference;
 use terms::Status;
 ghost use mathlib.Core.Path.{_≡_};
-ghost use Prim.Native.Nat.{_*_, _%_, _≤_};
+ghost use Prim.Native.Nat.{_*_, _≤_};
 ghost use lib.ListN.{length};
 ghost use Rattle.records.specs.Areas.{areaLength};
 ghost use Rattle.calls.specs.Reply.{orNone};
@@ -21,13 +22,6 @@ ghost use Rattle.sweep.specs.Swept.{SetIn, Sweeps, SweptOn};
 pub struct AnySet {
     pub status: Status,
     pub entry: Entry,
-}
-
-// The number of an entry: there are eight at most.
-fn entry_number(i: usize) -> EntryNo
-    ensures { λ n. ⌜ n .0 ≡ i % 256 ⌝ }
-{
-    EntryNo((i % 256) as u8)
 }
 
 // 4 to 11 by form: RDNXT takes sets of both kinds, and neither its path nor its key is looked at.
