@@ -1,14 +1,16 @@
--- Zeros over a whole buffer, and the turns of the loop that sets the checks.
-use Prim.Native.Nat.{ℕ, _+_, _*_, _≤_}
+-- Zeros over a whole buffer, the turns of the loop that sets the checks, and the check of a block of zeros.
+use Prim.Native.Nat.{ℕ, zero, suc, _+_, _*_, _-_, _%_, _≤_, _<_}
 use mathlib.Core.Path.{_≡_, refl, ap, _∙_}
-use mathlib.Core.List.{List, append-nil}
+use mathlib.Core.List.{List, _∷_, append-nil}
 use native.Mathlib.Omega.{arith}
+use native.Mathlib.Nat.{mod-eq-of-lt}
 use native.Mathlib.Numerals.{add-one}
-use lib.ListN.{length, length-replicate}
+use lib.ListN.{length, take, drop, length-replicate}
 use lib.Seq.{drop-length}
-use Rattle.octets.specs.Octets.{splice, zeros}
+use Rattle.octets.specs.Octets.{run, splice, word4, setWord, zeros, sumOnto}
 use Rattle.octets.specs.SpliceLaws.{splice-eq}
-use Rattle.blocks.specs.Blocks.{seal}
+use Rattle.blocks.specs.Blocks.{blockAt, checkOf, seal}
+use Rattle.blocks.specs.Laws.{run-seal}
 use Rattle.plans.specs.Plan.{sealBelow, formatted}
 
 pub length-zeros : (b : List ℕ) (n : ℕ) → b ≡ zeros n → length b ≡ n
@@ -34,3 +36,51 @@ seals-turn b x y i h k = k ∙ rw (add-one, h) refl
 pub seals-end : (b x : List ℕ) (n i : ℕ) → b ≡ zeros (n * 512) → x ≡ sealBelow i b → i ≤ n → n ≤ i → x ≡ formatted n
 unfolding formatted
 seals-end b x n i e h p q = let j : i ≡ n = omega arith in h ∙ rw (j, e) refl
+
+-- ---- the check of a block of zeros is the block's number
+
+drop-zeros : (a n m : ℕ) → n ≡ a + m → drop a (zeros n) ≡ zeros m
+drop-zeros zero n m h = let e : n ≡ m = omega arith in ap zeros e
+drop-zeros (suc a) zero m h = absurd (omega arith)
+drop-zeros (suc a) (suc n) m h = drop-zeros a n m (omega arith)
+
+take-zeros : (m n : ℕ) → m ≤ n → take m (zeros n) ≡ zeros m
+take-zeros zero n h = refl
+take-zeros (suc m) zero h = absurd (omega arith)
+take-zeros (suc m) (suc n) h = ap (λ (xs : List ℕ). 0 ∷ xs) (take-zeros m n (omega arith))
+
+run-zeros : (n a m : ℕ) → a + m ≤ n → run (zeros n) a m ≡ zeros m
+run-zeros n a m h = rw (drop-zeros a n (n - a) (omega arith)) (take-zeros m (n - a) (omega arith))
+
+lower : (a : ℕ) → a < 4294967296 → a % 4294967296 ≡ a
+lower a h = mod-eq-of-lt h
+
+sum-zeros : (k n acc : ℕ) → n ≡ k * 4 → acc < 4294967296 → sumOnto acc (zeros n) ≡ acc
+unfolding sumOnto
+sum-zeros zero zero acc e h = refl
+sum-zeros zero (suc n) acc e h = absurd (omega arith)
+sum-zeros (suc k) zero acc e h = refl
+sum-zeros (suc k) (suc zero) acc e h = refl
+sum-zeros (suc k) (suc (suc zero)) acc e h = refl
+sum-zeros (suc k) (suc (suc (suc zero))) acc e h = refl
+sum-zeros (suc k) (suc (suc (suc (suc n)))) acc e h =
+    let z : (acc + word4 0 0 0 0) % 4294967296 ≡ acc = lower (acc + word4 0 0 0 0) (omega arith) ∙ omega arith in
+    rw z (sum-zeros k n acc (omega arith) h)
+
+zero-check : (n : ℕ) → n < 4294967296 → checkOf (zeros 512) n ≡ n
+unfolding checkOf
+zero-check n h = ap (sumOnto n) (take-zeros 508 512 (omega arith)) ∙ sum-zeros 127 508 n refl h
+
+-- so it is stored as it is
+pub zero-seal : (b : List ℕ) (n : ℕ) → run b (blockAt n) 512 ≡ zeros 512 → n < 4294967296 → setWord b (n * 512 + 508) n ≡ seal b n
+unfolding seal
+zero-seal b n z h = rw (z, zero-check n h) refl
+
+-- a block whose check is not set yet is all zero
+run-sealBelow : (i : ℕ) (b : List ℕ) (a m : ℕ) → i * 512 ≤ a → run (sealBelow i b) a m ≡ run b a m
+unfolding sealBelow
+run-sealBelow zero b a m h = refl
+run-sealBelow (suc i) b a m h = run-seal (sealBelow i b) i a m (λ p q. omega arith) ∙ run-sealBelow i b a m (omega arith)
+
+pub still-zero : (b x : List ℕ) (n i : ℕ) → b ≡ zeros (n * 512) → x ≡ sealBelow i b → i < n → run x (blockAt i) 512 ≡ zeros 512
+still-zero b x n i e h l = rw (h, e) (run-sealBelow i (zeros (n * 512)) (i * 512) 512 (omega arith) ∙ run-zeros (n * 512) (i * 512) 512 (omega arith))

@@ -4,7 +4,7 @@ use mathlib.Core.Path.{_≡_, refl, _∙_}
 use native.Mathlib.Omega.{arith}
 use lib.ListN.{length}
 use Rattle.plans.specs.Plan.{sealBelow}
-use Rattle.format.specs.FormatLaws.{length-zeros, seals-begin, seals-turn, seals-end}
+use Rattle.format.specs.FormatLaws.{length-zeros, seals-begin, seals-turn, seals-end, still-zero}
 use borrow.Author.Needs.{needs}
 use Rattle.format.proofs.set_checks.Statement.{statement}
 use Rattle.format.proofs.set_checks.Tie as tie
@@ -18,10 +18,11 @@ abbrev μ-loop : tie.MeasureT-loop
 loop-holds : tie.Need-loop-holds Inv-loop μ-loop
 loop-holds c = (omega arith, seals-begin _, refl)
 
-seal-requires : tie.Need-seal-requires Inv-loop μ-loop
-seal-requires c κs =
+seal-zeros-requires : tie.Need-seal-zeros-requires Inv-loop μ-loop
+seal-zeros-requires c κs =
     let s = c .before .before .before .before in
-    omega (arith, length-zeros (s .args .base .now) (s .args .blocks * 512) (s .pre))
+    let l = c .before .before in
+    (omega (arith, length-zeros (s .args .base .now) (s .args .blocks * 512) (s .pre)), still-zero _ _ _ _ (s .pre) (l .loop .inv .1) (c .before .loop-test .taken))
 
 add-i : tie.Need-add-i Inv-loop μ-loop
 add-i c = search needs
@@ -32,7 +33,7 @@ loop-less c = search needs
 loop-again : tie.Need-loop-again Inv-loop μ-loop
 loop-again c =
     let l = c .before .before .before .before .before in
-    (omega arith, seals-turn _ _ _ (l .loop .i) (l .loop .inv .1) (c .before .before .seal .ensures), c .before .before .seal .kept .0 ∙ l .loop .inv .2)
+    (omega arith, seals-turn _ _ _ (l .loop .i) (l .loop .inv .1) (c .before .before .seal-zeros .ensures), c .before .before .seal-zeros .kept .0 ∙ l .loop .inv .2)
 
 same-length : tie.Need-same-length Inv-loop μ-loop
 same-length c = c .before .loop .inv .2
@@ -49,7 +50,7 @@ set-checks-spec =
     Inv-loop
     μ-loop
     loop-holds
-    seal-requires
+    seal-zeros-requires
     add-i
     loop-less
     loop-again
