@@ -22,7 +22,7 @@ seal-zeros-requires : tie.Need-seal-zeros-requires Inv-loop μ-loop
 seal-zeros-requires c κs =
     let s = c .before .before .before .before in
     let l = c .before .before in
-    (omega (arith, length-zeros (s .args .base .now) (s .args .blocks * 512) (s .pre)), still-zero _ _ _ _ (s .pre) (l .loop .inv .1) (c .before .loop-test .taken))
+    (omega (arith, length-zeros (s .args .base .now) (s .args .blocks * 512) (s .pre)), still-zero _ _ (s .args .blocks) (l .loop .i) (s .pre) (l .loop .inv .1) (omega (arith, c .before .loop-test .taken)))
 
 add-i : tie.Need-add-i Inv-loop μ-loop
 add-i c = search needs
