@@ -1,29 +1,23 @@
 -- What is left of the ladder once the named master and the referenced record are known, operation by operation: each has a few of the
 -- tests, in the one order, and in the end the test of the blocks that it stores into.
-use Prim.Native.Nat.{ℕ, zero, suc, _<_}
 use mathlib.Core.Path.{_≡_, refl, ap, _∙_}
-use mathlib.Core.Bool.{Bool, true, false, cond, not, _&&_, _||_}
-use mathlib.Core.List.{List, [], _∷_, _++_}
-use lib.Dec.{eqb}
+use mathlib.Core.Bool.{false, cond, not, _&&_}
+use mathlib.Core.List.{[], _∷_}
 use Rattle.octets.specs.Below.{concatBelow}
 use Rattle.terms.specs.declared.Status.{Status}
 use Rattle.terms.specs.declared.Status.the-variants.{Done, Keys, Mrnf, Imdl, Full, Damg}
-use Rattle.terms.specs.declared.Operation.the-variants.{Formt, Sinon, AddM, DelM, Readm, Writm, Rqloc, Rdnxt, Readv, Readr, Readd, Writv, Addvc, Addvb, Addva, Delvd}
-use Rattle.schema.specs.Decode.{pathOf}
-use Rattle.records.specs.Records.{keyOn}
+use Rattle.terms.specs.declared.Operation.the-variants.{Formt, Sinon, AddM, DelM, Readm, Writm, Rqloc, Rdnxt, Readv, Readr, Readd, Writv, Delvd}
 use Rattle.records.specs.Areas.{areaKeyOn}
 use Rattle.plans.specs.Plan.{blocksSealed}
-use Rattle.masters.specs.Find.{isFull}
 use Rattle.masters.specs.Root.{addMasterFull, addMasterDamaged, delMasterDamaged}
 use Rattle.chains.specs.Chains.{readDamaged, hasPoints}
-use Rattle.chains.specs.Points.{addDamaged, delDamaged}
 use Rattle.sound.specs.Sound.{sound}
 use Rattle.calls.specs.Call.{Call, oneOf, adds}
 use Rattle.calls.specs.Scene.{Scene}
 use Rattle.calls.specs.Ladder.{refusal, isLink, masterTests, otherStoredKey, otherMasterTests, finalTests}
-use Rattle.calls.specs.Reply.{storesOf, masterIn, homeOfKey, forward, backward, spotOf}
+use Rattle.calls.specs.Reply.{storesOf, masterIn, homeOfKey, forward, backward}
 use Rattle.calls.specs.LadderLaws.{Passes, refusal-passed, passes-append, passes-below}
-use Rattle.calls.specs.Answer.{firstOf, restTests}
+use Rattle.calls.specs.Answer.{restTests}
 
 module _ (x : Scene) (c : Call) where
   -- the last test of all: "a block to be stored into has a false check"

@@ -1,20 +1,17 @@
 -- What a function of the store is given: a decoded schema with its base, and the parameters of the call that it speaks of. The scene of a
 -- call under the schema is `sceneUnder t c`.
-use Prim.Native.Nat.{ℕ, _+_, _*_, _<_, _≤_}
+use Prim.Native.Nat.{ℕ, _*_, _<_}
 use mathlib.Core.Path.{_≡_}
-use mathlib.Core.Bool.{true, false}
-use mathlib.Core.List.{List, [], _∷_}
+use mathlib.Core.List.{List}
 use lib.ListN.{length}
 use Rattle.terms.specs.declared.Status.{Status}
 use Rattle.terms.specs.declared.Operation.{Operation}
-use Rattle.terms.specs.declared.Operation.the-variants.{Formt, Sinon}
 use Rattle.terms.specs.Operation.{operationOf}
-use Rattle.schema.specs.declared.Entry.{Entry}
 use Rattle.schema.specs.declared.Schema.{Schema}
 use Rattle.schema.specs.Decode.{entryOf, setCount}
 use Rattle.schema.specs.Guarantee.{SchemaOk}
 use Rattle.areas.specs.AreaLaws.{Fields}
-use Rattle.calls.specs.Call.{Call, Outcome, oneOf}
+use Rattle.calls.specs.Call.{Call, Outcome}
 use Rattle.calls.specs.Scene.{sceneUnder}
 use Rattle.calls.specs.Ladder.{refusal}
 use Rattle.ends.specs.Ends.{Ends}

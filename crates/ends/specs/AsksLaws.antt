@@ -2,7 +2,7 @@
 -- never about none.
 use Prim.Native.Nat.{ℕ}
 use mathlib.Core.Path.{_≡_, refl}
-use mathlib.Core.List.{List, []}
+use mathlib.Core.List.{List}
 use Rattle.octets.specs.Text.{text}
 use Rattle.octets.specs.Octets.{sameBytes}
 use Rattle.terms.specs.declared.Operation.{Operation}

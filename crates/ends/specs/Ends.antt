@@ -1,7 +1,7 @@
 -- How a call ends: with a refusal that changes nothing, with a record that is given, or with stores that are committed. `answered` is what
 -- a status makes of a call.
 use Prim.Native.Nat.{ℕ, _<_}
-use mathlib.Core.Path.{_≡_, refl, sym, ap, _∙_}
+use mathlib.Core.Path.{_≡_, refl, _∙_}
 use mathlib.Core.Bool.{Bool, true, false, cond, not}
 use mathlib.Core.List.{List, [], _∷_}
 use native.Mathlib.Omega.{arith}

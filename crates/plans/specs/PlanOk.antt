@@ -1,6 +1,6 @@
 -- What a plan must keep to for its stores to be made: its records are of the set, and its words lie in front of the checks of blocks that
 -- are there. The rooms that make plans prove it; `commit` asks for it.
-use Prim.Native.Nat.{ℕ, _+_, _≤_}
+use Prim.Native.Nat.{ℕ, _≤_}
 use mathlib.Core.Path.{_≡_}
 use mathlib.Core.List.{List}
 use lib.ListN.{length}

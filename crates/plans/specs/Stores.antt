@@ -2,7 +2,7 @@
 -- side, next's side; then wiping". `b` is the data base as it came, `e` the call's set, `area` its area.
 use Prim.Native.Nat.{ℕ}
 use mathlib.Core.Bool.{cond}
-use mathlib.Core.List.{List, [], _∷_, _++_, map}
+use mathlib.Core.List.{List, [], _∷_, _++_}
 use lib.Dec.{eqb}
 use lib.ListN.{take, getD}
 use Rattle.octets.specs.Octets.{wordBytes, setWord}

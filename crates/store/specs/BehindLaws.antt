@@ -1,10 +1,8 @@
 -- What a call comes to behind the general tests: refused by the tests of its parameters, or carried out on its set.
-use Prim.Native.Nat.{ℕ, _*_, _≤_, _<_}
+use Prim.Native.Nat.{ℕ, _<_}
 use mathlib.Core.Path.{_≡_, refl, sym, ap, _∙_}
 use mathlib.Core.Bool.{true}
 use mathlib.Core.List.{List}
-use native.Mathlib.Omega.{arith}
-use lib.ListN.{length}
 use Rattle.terms.specs.declared.Status.{Status}
 use Rattle.terms.specs.declared.Status.the-variants.{Done}
 use Rattle.terms.specs.declared.Operation.{Operation}
@@ -17,11 +15,10 @@ use Rattle.schema.specs.Decode.{schemaOf}
 use Rattle.schema.specs.Layout.{keepsRules}
 use Rattle.calls.specs.Call.{Call}
 use Rattle.calls.specs.Scene.{sceneUnder}
-use Rattle.calls.specs.Ladder.{refusal}
 use Rattle.calls.specs.Outcome.{outcome}
-use Rattle.calls.specs.Answer.{firstOf, answered, seekTests, restTests}
+use Rattle.calls.specs.Answer.{answered}
 use Rattle.ends.specs.Ends.{Ends, refused-ends, not-done}
-use Rattle.ends.specs.Asks.{Laid, Asks, placedStatus, behind, placedOutcome, Answers}
+use Rattle.ends.specs.Asks.{Asks, placedStatus, behind, placedOutcome, Answers}
 use Rattle.onmasters.specs.Masters.{Places, AnswersOn, AnswersIn}
 use Rattle.onmasters.specs.declared.Placed.{Placed}
 use Rattle.onpoints.specs.declared.Located.{Located}

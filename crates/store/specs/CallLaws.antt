@@ -1,14 +1,13 @@
 -- The contract of `call` from what the code came to.
-use Prim.Native.Nat.{ℕ, _+_, _*_, _<_}
+use Prim.Native.Nat.{ℕ, _+_, _*_}
 use mathlib.Core.Path.{_≡_, refl, sym, _∙_}
-use mathlib.Core.Bool.{Bool, true, false}
+use mathlib.Core.Bool.{true, false}
 use mathlib.Core.List.{List}
 use Rattle.terms.specs.declared.Status.{Status}
 use Rattle.terms.specs.declared.Status.the-variants.{Schm}
 use Rattle.terms.specs.declared.Operation.{Operation}
 use Rattle.terms.specs.Status.{statusNumber}
 use Rattle.terms.specs.Operation.{operationOf}
-use Rattle.schema.specs.declared.Schema.{Schema}
 use Rattle.schema.specs.declared.Decoded.{Decoded}
 use Rattle.schema.specs.Decode.{schemaOf, decodedOf}
 use Rattle.schema.specs.Layout.{keepsRules}
@@ -17,7 +16,7 @@ use Rattle.areas.specs.AreaLaws.{decoded-fields}
 use Rattle.calls.specs.Call.{Call, callOf}
 use Rattle.calls.specs.Outcome.{outcome, IsOutcome}
 use Rattle.ends.specs.Ends.{Ends}
-use Rattle.ends.specs.Asks.{Laid, Asks}
+use Rattle.ends.specs.Asks.{Laid}
 use Rattle.store.specs.BehindLaws.{Decides}
 use Rattle.store.specs.TopLaws.{schema-ends}
 

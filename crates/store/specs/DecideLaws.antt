@@ -3,7 +3,6 @@ use Prim.Native.Nat.{ℕ, _*_}
 use mathlib.Core.Path.{_≡_, refl, sym, ap, _∙_}
 use mathlib.Core.Bool.{Bool, true, false, cond}
 use mathlib.Core.List.{List, [], _∷_}
-use native.Mathlib.Omega.{arith}
 use lib.ListN.{length}
 use Rattle.terms.specs.declared.Status.{Status}
 use Rattle.terms.specs.declared.Status.the-variants.{Done, Size, Func, Damg}
@@ -18,7 +17,7 @@ use Rattle.sound.specs.Sound.{sound}
 use Rattle.calls.specs.Call.{Call, oneOf}
 use Rattle.calls.specs.Outcome.{outcome}
 use Rattle.ends.specs.Ends.{Ends}
-use Rattle.ends.specs.Asks.{Laid, Asks, Answers}
+use Rattle.ends.specs.Asks.{Asks, Answers}
 use Rattle.store.specs.BehindLaws.{Decides, AnswersNamed}
 use Rattle.store.specs.declared.kinds.Kind.{Kind}
 use Rattle.store.specs.Kinds.{kindOf, operationIn, kind-back}

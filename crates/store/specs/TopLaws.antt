@@ -1,15 +1,14 @@
 -- From the outcome of a call to what its parts answer: the general tests first; then FORMT and SINON, or what is behind them.
-use Prim.Native.Nat.{ℕ, _*_, _<_}
+use Prim.Native.Nat.{_*_}
 use mathlib.Core.Path.{_≡_, refl, sym, ap, _∙_}
-use mathlib.Core.Bool.{Bool, true, false, cond, not, _&&_}
-use mathlib.Core.List.{List, [], _∷_}
+use mathlib.Core.Bool.{Bool, true, false, cond, not}
+use mathlib.Core.List.{[], _∷_}
 use native.Mathlib.Omega.{arith}
 use lib.Dec.{eqb}
 use lib.ListN.{length}
 use borrow.Author.Tests.{eq-eqb, ne-eqb}
 use Rattle.terms.specs.declared.Status.{Status}
 use Rattle.terms.specs.declared.Status.the-variants.{Done, Schm, Size, Func, Damg}
-use Rattle.terms.specs.declared.Operation.{Operation}
 use Rattle.terms.specs.declared.Operation.the-variants.{Formt, Sinon, Unknown}
 use Rattle.terms.specs.Status.{statusNumber}
 use Rattle.terms.specs.Operation.{operationOf}
@@ -19,15 +18,15 @@ use Rattle.schema.specs.Layout.{keepsRules}
 use Rattle.plans.specs.Plan.{storeAll, sealAll, committed, formatted}
 use Rattle.sound.specs.Sound.{sound}
 use Rattle.calls.specs.SceneLaws.{schema-here, operation-here}
-use Rattle.calls.specs.Call.{Call, Outcome, oneOf}
-use Rattle.calls.specs.Scene.{Scene, sceneUnder}
-use Rattle.calls.specs.Ladder.{refusal, wrongKind, generalTests, ladder}
+use Rattle.calls.specs.Call.{Call, oneOf}
+use Rattle.calls.specs.Scene.{sceneUnder}
+use Rattle.calls.specs.Ladder.{refusal, generalTests, ladder}
 use Rattle.calls.specs.Reply.{given, referenceAfter, areaAfter, storesOf, baseAfter}
-use Rattle.calls.specs.Outcome.{refused, done, outcomeIn, outcome}
-use Rattle.calls.specs.Answer.{firstOf, answered, placeTests, formTests, seekTests, restTests, refusal-groups}
+use Rattle.calls.specs.Outcome.{done, outcomeIn, outcome}
+use Rattle.calls.specs.Answer.{firstOf, answered, placeTests, formTests, refusal-groups}
 use Rattle.calls.specs.RestLaws.{rest-sinon, rest-formt}
 use Rattle.ends.specs.Ends.{Ends, refused-ends}
-use Rattle.ends.specs.Asks.{placedStatus, behind}
+use Rattle.ends.specs.Asks.{behind}
 
 -- a schema that breaks a rule
 pub schema-ends : (c : Call) → keepsRules (c .schema) ≡ false → Ends (outcome c) Schm (c .reference) (c .area) (c .base)

@@ -14,12 +14,10 @@ ghost use Prim.Native.Nat.{_+_, _*_};
 ghost use lib.ListN.{length};
 ghost use mathlib.Core.Bool.{cond};
 ghost use Rattle.terms.specs.declared.Status.the-variants.{Done, Damg};
-ghost use Rattle.terms.specs.Status.{statusNumber};
 ghost use Rattle.sound.specs.Sound.{sound};
 ghost use Rattle.calls.specs.Call.{callOf};
-ghost use Rattle.calls.specs.Outcome.{outcome, IsOutcome};
+ghost use Rattle.calls.specs.Outcome.{IsOutcome};
 ghost use Rattle.ends.specs.Asks.{Laid};
-ghost use Rattle.store.specs.Kinds.{operationIn};
 ghost use Rattle.store.specs.BehindLaws.{Decides};
 ghost use Rattle.store.specs.CallLaws.{IsWord};
 

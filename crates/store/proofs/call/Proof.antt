@@ -1,7 +1,6 @@
 use borrow.Author.Tests.{not-true, not-false}
 use Rattle.store.specs.CallLaws.{broken-schema, decided, laid-out}
-use mathlib.Core.Path.{_≡_, refl, sym, ap, _∙_}
-use native.Mathlib.Omega.{arith}
+use mathlib.Core.Path.{ap}
 use borrow.Author.Needs.{needs}
 use Rattle.store.proofs.call.Statement.{statement}
 use Rattle.store.proofs.call.Tie as tie

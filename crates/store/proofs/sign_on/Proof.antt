@@ -1,4 +1,3 @@
-use mathlib.Core.Path.{_≡_, refl, sym, ap, _∙_}
 use native.Mathlib.Omega.{arith}
 use Rattle.sound.specs.LinearLaws.{inPlace-sound}
 use borrow.Author.Needs.{needs}

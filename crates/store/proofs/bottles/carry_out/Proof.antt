@@ -1,5 +1,4 @@
-use mathlib.Core.Path.{_≡_, refl, sym, ap, _∙_}
-use native.Mathlib.Omega.{arith}
+use mathlib.Core.Path.{refl, ap}
 use Rattle.onmasters.specs.MasterLaws.{master-in}
 use Rattle.store.specs.Kinds.{masterOperation}
 use Rattle.store.specs.BehindLaws.{carried-on, carried-in}

@@ -1,4 +1,4 @@
-use mathlib.Core.Path.{_≡_, refl, sym, ap, _∙_}
+use mathlib.Core.Path.{refl, sym, ap, _∙_}
 use native.Mathlib.Omega.{arith}
 use Rattle.terms.specs.declared.Status.the-variants.{Done}
 use Rattle.terms.specs.Laws.{status-number-one}

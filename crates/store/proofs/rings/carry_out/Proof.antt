@@ -1,5 +1,4 @@
-use mathlib.Core.Path.{_≡_, refl, sym, ap, _∙_}
-use native.Mathlib.Omega.{arith}
+use mathlib.Core.Path.{refl, ap}
 use Rattle.onpoints.specs.PathLaws.{reached-in, reached}
 use Rattle.store.specs.Kinds.{pointOperation}
 use Rattle.store.specs.BehindLaws.{along-path, under-path}
