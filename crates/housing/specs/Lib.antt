@@ -1,0 +1,2 @@
+pub mod HomeRows
+pub mod Effects

@@ -1,0 +1,4 @@
+pub mod Deeds
+pub mod Frames
+pub mod Rows
+pub mod Tests
