@@ -1,2 +1,6 @@
 pub mod HomeRows
 pub mod Effects
+pub mod RowLaws
+pub mod FindLaws
+pub mod QuietLaws
+pub mod MasterStep

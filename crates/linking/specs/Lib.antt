@@ -1,1 +1,7 @@
 pub mod Changes
+pub mod RowFacts
+pub mod Cuts
+pub mod Neighbours
+pub mod RowChange
+pub mod FollowLaws
+pub mod Standing
