@@ -5,3 +5,13 @@ pub mod Neighbours
 pub mod RowChange
 pub mod FollowLaws
 pub mod Standing
+pub mod Nodes
+pub mod PointSteps
+pub mod AreaMade
+pub mod AddDeeds
+pub mod AddEffects
+pub mod AddSteps
+pub mod PointDeeds
+pub mod WriteSteps
+pub mod DelDeeds
+pub mod DelSteps

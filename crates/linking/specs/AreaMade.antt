@@ -1,0 +1,67 @@
+-- The area of a variable record is its keys on each path, one behind the other, and its D bytes: two records with the same keys and D bytes
+-- have the same area, and a record that has the keys and D bytes of an area reads into that area.
+use Prim.Native.Nat.{ℕ, zero, suc, _≤_, _<_}
+use mathlib.Core.Path.{_≡_, refl, sym, _∙_}
+use mathlib.Core.Bool.{false}
+use mathlib.Core.List.{List, [], _∷_, _++_, append-nil, append-assoc}
+use native.Mathlib.Omega.{arith}
+use native.Mathlib.Numerals.{add-one}
+use borrow.Author.Tests.{ne-eqb}
+use lib.ListN.{length, take, drop, length-drop, take-append-drop}
+use lib.Seq.{take-suc, take-all, take-add}
+use Rattle.octets.specs.Below.{concatBelow}
+use Rattle.schema.specs.declared.Path.{Path}
+use Rattle.schema.specs.declared.Entry.{Entry}
+use Rattle.schema.specs.declared.Schema.{Schema}
+use Rattle.schema.specs.Decode.{noPath, entryOf, pathOf, setCount}
+use Rattle.schema.specs.Guarantee.{SchemaOk}
+use Rattle.records.specs.Records.{bodyOf, keyOn}
+use Rattle.records.specs.Areas.{isMaster, areaKeyPlace, areaKeys, areaLength, areaKeyOn, areaBody, keysOn, areaOf}
+use Rattle.areas.specs.AreaLaws.{Fields, variable-keys, area-key-first, area-key-turn}
+
+-- a set behind the masters is a variable one
+pub variable-set : (t : Schema) → SchemaOk t → (k : ℕ) → t .masters ≤ k → k < setCount t → isMaster (entryOf t k) ≡ false
+variable-set t ok k u v = ne-eqb (entryOf t k .kind) 1 (λ e. omega (arith, ok .variable k u v .kind))
+
+-- lists that are the same one by one
+pub concat-same {ℓ} : {A : Type ℓ} (f g : ℕ → List A) (n : ℕ) → ((k : ℕ) → k < n → f k ≡ g k) → concatBelow f n ≡ concatBelow g n
+unfolding concatBelow
+concat-same f g zero h = refl
+concat-same f g (suc n) h = rw (concat-same f g n (λ k l. h k (omega arith)), h n (omega arith)) refl
+
+-- an area by its keys
+module _ (c : List ℕ) (e : Entry) (r : ℕ) where
+  keys-append : (ps : List Path) (p : Path) → keysOn c e r (ps ++ (p ∷ [])) ≡ keysOn c e r ps ++ keyOn c e r p
+  unfolding keysOn
+  keys-append [] p = append-nil (keyOn c e r p)
+  keys-append (q ∷ ps) p = rw (keys-append ps p) (sym (append-assoc (keyOn c e r q) (keysOn c e r ps) (keyOn c e r p)))
+
+  keys-taken : (n : ℕ) → n ≤ length (e .paths) → keysOn c e r (take n (e .paths)) ≡ concatBelow (λ k. keyOn c e r (pathOf e k)) n
+  unfolding keysOn concatBelow
+  keys-taken zero l = refl
+  keys-taken (suc n) l = rw (take-suc (e .paths) n noPath l, keys-append (take n (e .paths)) (pathOf e n), keys-taken n (omega arith)) refl
+
+  area-is : Fields e → isMaster e ≡ false → areaOf c e r ≡ concatBelow (λ k. keyOn c e r (pathOf e k)) (e .count) ++ bodyOf c e r
+  unfolding areaOf
+  area-is f v = rw (v, keys-taken (e .count) (omega (arith, f .few, f .four))) refl
+
+-- a record with the keys and the D bytes of another, before or after a call
+pub area-same : (b c : List ℕ) (e : Entry) (r : ℕ) → Fields e → isMaster e ≡ false → ((k : ℕ) → k < e .count → keyOn c e r (pathOf e k) ≡ keyOn b e r (pathOf e k))
+    → bodyOf c e r ≡ bodyOf b e r → areaOf c e r ≡ areaOf b e r
+area-same b c e r f v ks d =
+    rw (area-is c e r f v, area-is b e r f v, concat-same (λ k. keyOn c e r (pathOf e k)) (λ k. keyOn b e r (pathOf e k)) (e .count) ks, d) refl
+
+-- the keys of an area, one behind the other, are its first bytes
+area-keys : (e : Entry) (area : List ℕ) (n : ℕ) → concatBelow (areaKeyOn e area) n ≡ take (areaKeyPlace e n) area
+unfolding concatBelow
+area-keys e area zero = rw (area-key-first e) refl
+area-keys e area (suc n) =
+    rw (← add-one n, area-key-turn e n, take-add (areaKeyPlace e n) (pathOf e n .len) area, area-keys e area n) refl
+
+pub area-made : (c : List ℕ) (e : Entry) (r : ℕ) (area : List ℕ) → Fields e → isMaster e ≡ false → length area ≡ areaLength e
+    → ((k : ℕ) → k < e .count → keyOn c e r (pathOf e k) ≡ areaKeyOn e area k) → bodyOf c e r ≡ areaBody e area → areaOf c e r ≡ area
+area-made c e r area f v l ks d =
+    let rest : areaBody e area ≡ drop (areaKeys e) area = take-all (e .room) (drop (areaKeys e) area) (rw length-drop (omega arith)) in
+    area-is c e r f v
+    ∙ (rw (concat-same (λ k. keyOn c e r (pathOf e k)) (areaKeyOn e area) (e .count) ks, area-keys e area (e .count), d, rest, variable-keys e v)
+    (take-append-drop (areaKeyPlace e (e .count)) area))
