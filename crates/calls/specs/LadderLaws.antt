@@ -1,5 +1,5 @@
 -- Going down the ladder: tests that pass are left behind, path by path too. And what FORMT answers.
-use Prim.Native.Nat.{ℕ, zero, suc, _+_, _*_, _<_}
+use Prim.Native.Nat.{ℕ, zero, suc, _*_, _<_}
 use mathlib.Core.Path.{_≡_, refl, _∙_}
 use mathlib.Core.Logic.{_⊎_, inl, inr}
 use mathlib.Core.Bool.{Bool, true, false, cond, not, _&&_}
@@ -11,7 +11,7 @@ use native.Mathlib.Omega.{arith}
 use Rattle.octets.specs.Below.{concatBelow}
 use Rattle.terms.specs.declared.Status.{Status}
 use Rattle.terms.specs.declared.Status.the-variants.{Done, Schm, Size, Func, Mrnf}
-use Rattle.terms.specs.declared.Operation.the-variants.{Formt, Unknown}
+use Rattle.terms.specs.declared.Operation.the-variants.{Formt, Delvd, Unknown}
 use Rattle.terms.specs.Operation.{operationOf}
 use Rattle.plans.specs.Plan.{blocksSealed}
 use Rattle.calls.specs.Call.{Call, oneOf, adds}
@@ -47,6 +47,13 @@ unfolding refusal
 refusal-done [] h = refl
 refusal-done (a ∷ tests) h = rw (h .0) (refusal-done tests (h .1))
 
+-- the other paths' masters are asked for by adds and DELVD alone
+pub others-pass : (x : Scene) (c : Call) → oneOf (x .operation) adds ≡ false → oneOf (x .operation) (Delvd ∷ []) ≡ false → Passes (otherMasterTests x c)
+others-pass x c h k =
+    passes-append (concatBelow (masterTests x c adds Mrnf (areaKeyOn (x .entry) (c .area))) (x .entry .count)) _
+    (passes-below _ (x .entry .count) (λ i l. rw h (refl, (refl, tt))))
+    (passes-below _ (x .entry .count) (λ i l. rw k (refl, (refl, tt))))
+
 -- ---- "FORMT answers only 0, 1 or 2"
 
 module _ (x : Scene) (c : Call) (e : x .operation ≡ Formt) where
@@ -55,12 +62,6 @@ module _ (x : Scene) (c : Call) (e : x .operation ≡ Formt) where
 
   found-pass : Passes (foundTests x c)
   found-pass = rw e (refl, (refl, (refl, (refl, (refl, (refl, tt))))))
-
-  others-pass : Passes (otherMasterTests x c)
-  others-pass =
-      passes-append (concatBelow (masterTests x c adds Mrnf (areaKeyOn (x .entry) (c .area))) (x .entry .count)) _
-      (passes-below _ (x .entry .count) (λ k l. rw e (refl, (refl, tt))))
-      (passes-below _ (x .entry .count) (λ k l. rw e (refl, (refl, tt))))
 
   final-pass : Passes (finalTests x c)
   unfolding storesOf blocksSealed
@@ -71,7 +72,7 @@ module _ (x : Scene) (c : Call) (e : x .operation ≡ Formt) where
   rest-pass =
       refusal-passed (parameterTests x c) (foundTests x c ++ (otherMasterTests x c ++ finalTests x c)) parameters-pass
       ∙ refusal-passed (foundTests x c) (otherMasterTests x c ++ finalTests x c) found-pass
-      ∙ refusal-passed (otherMasterTests x c) (finalTests x c) others-pass
+      ∙ refusal-passed (otherMasterTests x c) (finalTests x c) (others-pass x c (rw e refl) (rw e refl))
       ∙ refusal-done (finalTests x c) final-pass
 
 -- 0, 1 or 2

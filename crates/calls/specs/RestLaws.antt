@@ -3,20 +3,18 @@
 use mathlib.Core.Path.{_≡_, refl, ap, _∙_}
 use mathlib.Core.Bool.{false, cond, not, _&&_}
 use mathlib.Core.List.{[], _∷_}
-use Rattle.octets.specs.Below.{concatBelow}
 use Rattle.terms.specs.declared.Status.{Status}
-use Rattle.terms.specs.declared.Status.the-variants.{Done, Keys, Mrnf, Imdl, Full, Damg}
+use Rattle.terms.specs.declared.Status.the-variants.{Done, Keys, Imdl, Full, Damg}
 use Rattle.terms.specs.declared.Operation.the-variants.{Formt, Sinon, AddM, DelM, Readm, Writm, Rqloc, Rdnxt, Readv, Readr, Readd, Writv, Delvd}
-use Rattle.records.specs.Areas.{areaKeyOn}
 use Rattle.plans.specs.Plan.{blocksSealed}
 use Rattle.masters.specs.Root.{addMasterFull, addMasterDamaged, delMasterDamaged}
 use Rattle.chains.specs.Chains.{readDamaged, hasPoints}
 use Rattle.sound.specs.Sound.{sound}
 use Rattle.calls.specs.Call.{Call, oneOf, adds}
 use Rattle.calls.specs.Scene.{Scene}
-use Rattle.calls.specs.Ladder.{refusal, isLink, masterTests, otherStoredKey, otherMasterTests, finalTests}
+use Rattle.calls.specs.Ladder.{refusal, isLink, otherStoredKey, otherMasterTests, finalTests}
 use Rattle.calls.specs.Reply.{storesOf, masterIn, homeOfKey, forward, backward}
-use Rattle.calls.specs.LadderLaws.{Passes, refusal-passed, passes-append, passes-below}
+use Rattle.calls.specs.LadderLaws.{refusal-passed, others-pass}
 use Rattle.calls.specs.Answer.{restTests}
 
 module _ (x : Scene) (c : Call) where
@@ -24,20 +22,13 @@ module _ (x : Scene) (c : Call) where
   abbrev pub storable : Status
   storable = cond (not (blocksSealed (c .base) (storesOf x c))) Damg Done
 
-  -- the other paths' masters are asked for by adds and DELVD alone
-  others-pass : oneOf (x .operation) adds ≡ false → oneOf (x .operation) (Delvd ∷ []) ≡ false → Passes (otherMasterTests x c)
-  others-pass h k =
-      passes-append (concatBelow (masterTests x c adds Mrnf (areaKeyOn (x .entry) (c .area))) (x .entry .count)) _
-      (passes-below _ (x .entry .count) (λ i l. rw h (refl, (refl, tt))))
-      (passes-below _ (x .entry .count) (λ i l. rw k (refl, (refl, tt))))
-
   rest-short : oneOf (x .operation) adds ≡ false → oneOf (x .operation) (Delvd ∷ []) ≡ false
       → refusal (restTests x c)
       ≡ cond (oneOf (x .operation) (Writv ∷ []) && otherStoredKey (c .base) (x .entry) (c .reference) (c .area)) Keys (refusal (finalTests x c))
   unfolding restTests refusal
   rest-short h k =
       ap (cond (oneOf (x .operation) (Writv ∷ []) && otherStoredKey (c .base) (x .entry) (c .reference) (c .area)) Keys)
-      (refusal-passed (otherMasterTests x c) (finalTests x c) (others-pass h k))
+      (refusal-passed (otherMasterTests x c) (finalTests x c) (others-pass x c h k))
 
   -- ---- calls that store nothing
 

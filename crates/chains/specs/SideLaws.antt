@@ -4,11 +4,11 @@ use Prim.Native.Nat.{ℕ, zero, suc}
 use mathlib.Core.Path.{_≡_, refl}
 use mathlib.Core.Logic.{_⊎_, inl, inr}
 use mathlib.Core.Bool.{Bool, true, false, not, _&&_, and-eq-true-iff}
-use mathlib.Core.List.{List, [], _∷_}
+use mathlib.Core.List.{List}
 use native.Mathlib.Omega.{arith}
 use lib.Dec.{eqb, eqb·suc-zero}
 use borrow.Author.Tests.{eqb-true}
-use Rattle.octets.specs.Octets.{setWord, sameBytes}
+use Rattle.octets.specs.Octets.{wordBytes, sameBytes}
 use Rattle.octets.specs.RunLaws.{sameBytes-eq}
 use Rattle.schema.specs.declared.Path.{Path}
 use Rattle.schema.specs.declared.Entry.{Entry}
@@ -16,8 +16,7 @@ use Rattle.schema.specs.declared.Schema.{Schema}
 use Rattle.schema.specs.Decode.{entryOf, pathOf}
 use Rattle.schema.specs.Place.{InSet, inSet}
 use Rattle.records.specs.Records.{isLive, keyOn}
-use Rattle.records.specs.Address.{Address, next, prior, first, last, putWord}
-use Rattle.plans.specs.Plan.{storeAll}
+use Rattle.records.specs.Address.{Address, addressAt, next, prior, first, last}
 use Rattle.masters.specs.FindLaws.{inSet-true}
 use Rattle.chains.specs.Chains.{isPointOf, badNeighbour, priorSide, nextSide}
 
@@ -41,15 +40,13 @@ module _ (t : Schema) (i j m : ℕ) where
   abbrev x : Entry
   x = entryOf t (pathOf (entryOf t i) j .master .0)
 
-  pub priorSide-is : (b : List ℕ) (n v : ℕ) → storeAll b (priorSide e p x m n v ∷ []) ≡ putWord t b (forwardFrom n) v
-  unfolding storeAll setWord
-  priorSide-is b zero v = refl
-  priorSide-is b (suc n) v = rw eqb·suc-zero
+  pub priorSide-is : (n v : ℕ) → priorSide e p x m n v ≡ record { at = addressAt t (forwardFrom n); bytes = wordBytes v }
+  priorSide-is zero v = refl
+  priorSide-is (suc n) v = rw eqb·suc-zero
 
-  pub nextSide-is : (b : List ℕ) (n v : ℕ) → storeAll b (nextSide e p x m n v ∷ []) ≡ putWord t b (backFrom n) v
-  unfolding storeAll setWord
-  nextSide-is b zero v = refl
-  nextSide-is b (suc n) v = rw eqb·suc-zero
+  pub nextSide-is : (n v : ℕ) → nextSide e p x m n v ≡ record { at = addressAt t (backFrom n); bytes = wordBytes v }
+  nextSide-is zero v = refl
+  nextSide-is (suc n) v = rw eqb·suc-zero
 
 -- ---- a neighbour that is not bad is none, or a live record of the set with the chain's key
 

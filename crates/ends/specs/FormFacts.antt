@@ -4,18 +4,15 @@ use mathlib.Core.Path.{_≡_, refl, ap}
 use mathlib.Core.Bool.{Bool, true, false, cond, not, _&&_}
 use mathlib.Core.List.{List}
 use native.Mathlib.Omega.{arith}
-use lib.Dec.{eqb, ltb}
+use lib.Dec.{eqb}
 use lib.ListN.{length}
-use borrow.Author.Tests.{eqb-true, ltb-true, ltb-false, not-false}
+use borrow.Author.Tests.{eqb-true, not-false}
 use Rattle.terms.specs.declared.Status.{Status}
 use Rattle.terms.specs.declared.Status.the-variants.{Done, Area, Klen}
 use Rattle.terms.specs.declared.Operation.{Operation}
 use Rattle.terms.specs.Status.{statusNumber}
 use Rattle.schema.specs.declared.Entry.{Entry}
-use Rattle.schema.specs.declared.Schema.{Schema}
-use Rattle.schema.specs.Decode.{entryOf, setCount}
-use Rattle.schema.specs.Guarantee.{SchemaOk}
-use Rattle.records.specs.Areas.{isMaster, areaLength}
+use Rattle.records.specs.Areas.{areaLength}
 use Rattle.forms.specs.Form.{rungsOf, formStatus}
 
 -- a test that passed, and the tests behind it
@@ -41,13 +38,3 @@ module _ (o : Operation) (e : Entry) (on link k ref : ℕ) (key area : List ℕ)
   key-length h =
       let p = passed (rungsOf o .area && not (eqb (length area) (areaLength e))) Area _ (omega arith) d in
       eqb-true _ _ (not-false _ (asked (rungsOf o .key) _ h (passed (rungsOf o .key && not (eqb (length key) k)) Klen _ (omega arith) (p .1) .0)))
-
--- a set of masters is one of the first
-pub among-masters : (t : Schema) (i : ℕ) → SchemaOk t → i < setCount t → isMaster (entryOf t i) ≡ true → i < t .masters
-among-masters t i ok l m = go (ltb i (t .masters)) refl
-  where
-    go : (b : Bool) → ltb i (t .masters) ≡ b → i < t .masters
-    go true h = ltb-true i (t .masters) h
-    go false h =
-        let one : entryOf t i .kind ≡ 1 = eqb-true _ _ m in
-        absurd (omega (arith, ok .variable i (ltb-false i (t .masters) h) l .kind))

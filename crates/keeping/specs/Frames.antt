@@ -7,7 +7,7 @@ use mathlib.Core.List.{List}
 use Rattle.schema.specs.declared.Schema.{Schema}
 use Rattle.schema.specs.Decode.{entryOf, pathOf, setCount}
 use Rattle.schema.specs.Place.{InSet}
-use Rattle.schema.specs.Guarantee.{SchemaOk, IsPathOf}
+use Rattle.schema.specs.Guarantee.{IsPathOf}
 use Rattle.records.specs.Records.{isLive, rootNext, rootPrior, masterKey, firstOn, lastOn, keyOn, priorOn, nextOn}
 use Rattle.records.specs.Areas.{areaOf}
 use Rattle.chains.specs.Points.{mastersOn}

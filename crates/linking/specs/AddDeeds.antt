@@ -26,11 +26,12 @@ use Rattle.sound.specs.KeyLaws.{Live}
 use Rattle.keeping.specs.Deeds.{Deed, point, whole, after, AllValid, Misses, AllSpared, AllOff, AllZeroed}
 use Rattle.keeping.specs.Rows.{World}
 use Rattle.keeping.specs.DeedLaws.{valid-below, misses-below, misses-but, spared-below, off-below, zeroed-below, word-pointed}
-use Rattle.linking.specs.Nodes.{nextAt, priorAt, nextAt-word, priorAt-word, next-not-prior, prior-not-next, next-other-path, prior-other-path, next-other-node, prior-other-node, next-not-key, prior-not-key}
+use Rattle.chains.specs.SideLaws.{forwardFrom, backFrom}
+use Rattle.linking.specs.Nodes.{forward-word, back-word, next-not-prior, prior-not-next, next-other-path, prior-other-path, next-other-node, prior-other-node, next-not-key, prior-not-key}
 
 -- on path k of set i: the node before the new record r and the node after it, in the chain of the master in its record
 abbrev pub sides : Schema → ℕ → ℕ → (ℕ → ℕ) → (ℕ → Link) → ℕ → List Deed
-sides t i r master link k = point (nextAt t i k (master k) (link k .prior)) r ∷ point (priorAt t i k (master k) (link k .next)) r ∷ []
+sides t i r master link k = point (forwardFrom t i k (master k) (link k .prior)) r ∷ point (backFrom t i k (master k) (link k .next)) r ∷ []
 
 abbrev pub addDeeds : Schema → ℕ → ℕ → List ℕ → (ℕ → ℕ) → (ℕ → Link) → List Deed
 addDeeds t i r ys master link = whole i r ys ∷ concatBelow (sides t i r master link) (entryOf t i .count)
@@ -73,8 +74,8 @@ module _ {t : Schema} {b : List ℕ} {i r : ℕ} {ys area : List ℕ} {master : 
       let fits : r < 4294967296 = omega (arith, h .in-set) in (
         (h .set .1, h .in-set, h .long),
         valid-below t (sides t i r master link) (entryOf t i .count) (λ k l. (
-          (nextAt-word t (h .world .ok) i k (master k) (link k .prior) (is-path k l) (h .masters k l .0) (node-most t b i (link k .prior) (h .priors k l)), fits),
-          ((priorAt-word t (h .world .ok) i k (master k) (link k .next) (is-path k l) (h .masters k l .0) (node-most t b i (link k .next) (h .nexts k l)), fits), tt),
+          (forward-word t (h .world .ok) i k (master k) (link k .prior) (is-path k l) (h .masters k l .0) (node-most t b i (link k .prior) (h .priors k l)), fits),
+          ((back-word t (h .world .ok) i k (master k) (link k .next) (is-path k l) (h .masters k l .0) (node-most t b i (link k .next) (h .nexts k l)), fits), tt),
         )),
       )
 
@@ -100,42 +101,42 @@ module _ {t : Schema} {b : List ℕ} {i r : ℕ} {ys area : List ℕ} {master : 
       (λ k l. (next-not-key t i k (master k) (link k .prior) n q f d7 d8, (prior-not-key t i k (master k) (link k .next) n q f d6 d9, tt)))
 
   -- the nodes of another path
-  next-path : (n j m a k : ℕ) → ((n ≡ i) × (j ≡ k) → ⊥) → Misses (nextAt t n j m a) (sides t i r master link k)
+  next-path : (n j m a k : ℕ) → ((n ≡ i) × (j ≡ k) → ⊥) → Misses (forwardFrom t n j m a) (sides t i r master link k)
   next-path n j m a k d = (next-other-path t n j i k m a (master k) (link k .prior) d, (next-not-prior t n j m a i k (master k) (link k .next), tt))
 
-  prior-path : (n j m a k : ℕ) → ((n ≡ i) × (j ≡ k) → ⊥) → Misses (priorAt t n j m a) (sides t i r master link k)
+  prior-path : (n j m a k : ℕ) → ((n ≡ i) × (j ≡ k) → ⊥) → Misses (backFrom t n j m a) (sides t i r master link k)
   prior-path n j m a k d = (prior-not-next t n j m a i k (master k) (link k .prior), (prior-other-path t n j i k m a (master k) (link k .next) d, tt))
 
-  pub sides-next-set : (n j m a : ℕ) → n ≢ i → Misses (nextAt t n j m a) (concatBelow (sides t i r master link) (entryOf t i .count))
-  sides-next-set n j m a d = misses-below (nextAt t n j m a) (sides t i r master link) (entryOf t i .count) (λ k l. next-path n j m a k (λ e. d (e .0)))
+  pub sides-next-set : (n j m a : ℕ) → n ≢ i → Misses (forwardFrom t n j m a) (concatBelow (sides t i r master link) (entryOf t i .count))
+  sides-next-set n j m a d = misses-below (forwardFrom t n j m a) (sides t i r master link) (entryOf t i .count) (λ k l. next-path n j m a k (λ e. d (e .0)))
 
-  pub sides-prior-set : (n j m a : ℕ) → n ≢ i → Misses (priorAt t n j m a) (concatBelow (sides t i r master link) (entryOf t i .count))
-  sides-prior-set n j m a d = misses-below (priorAt t n j m a) (sides t i r master link) (entryOf t i .count) (λ k l. prior-path n j m a k (λ e. d (e .0)))
+  pub sides-prior-set : (n j m a : ℕ) → n ≢ i → Misses (backFrom t n j m a) (concatBelow (sides t i r master link) (entryOf t i .count))
+  sides-prior-set n j m a d = misses-below (backFrom t n j m a) (sides t i r master link) (entryOf t i .count) (λ k l. prior-path n j m a k (λ e. d (e .0)))
 
   -- the other nodes of the same path
   another : (q m a c : ℕ) → ((q ≡ m) ⊎ (1 ≤ a) → a ≢ c) → a ≡ c → (a ≡ 0) × (q ≢ m)
   another q m zero c d e = (refl, λ s. d (inl s) e)
   another q m (suc a) c d e = absurd (d (inr (omega arith)) e)
 
-  pub sides-next : (j q a : ℕ) → ((q ≡ master j) ⊎ (1 ≤ a) → a ≢ link j .prior) → Misses (nextAt t i j q a) (concatBelow (sides t i r master link) (entryOf t i .count))
-  sides-next j q a d = misses-below (nextAt t i j q a) (sides t i r master link) (entryOf t i .count) (λ k l. by k (same? j k))
+  pub sides-next : (j q a : ℕ) → ((q ≡ master j) ⊎ (1 ≤ a) → a ≢ link j .prior) → Misses (forwardFrom t i j q a) (concatBelow (sides t i r master link) (entryOf t i .count))
+  sides-next j q a d = misses-below (forwardFrom t i j q a) (sides t i r master link) (entryOf t i .count) (λ k l. by k (same? j k))
     where
-      by : (k : ℕ) → (j ≡ k) ⊎ (j ≢ k) → Misses (nextAt t i j q a) (sides t i r master link k)
+      by : (k : ℕ) → (j ≡ k) ⊎ (j ≢ k) → Misses (forwardFrom t i j q a) (sides t i r master link k)
       by k (inl e) =
           rw (← e) (next-other-node t i j q a (master j) (link j .prior) (another q (master j) a (link j .prior) d), (next-not-prior t i j q a i j (master j) (link j .next), tt))
       by k (inr n) = next-path i j q a k (λ e. n (e .1))
 
-  pub sides-prior : (j q a : ℕ) → ((q ≡ master j) ⊎ (1 ≤ a) → a ≢ link j .next) → Misses (priorAt t i j q a) (concatBelow (sides t i r master link) (entryOf t i .count))
-  sides-prior j q a d = misses-below (priorAt t i j q a) (sides t i r master link) (entryOf t i .count) (λ k l. by k (same? j k))
+  pub sides-prior : (j q a : ℕ) → ((q ≡ master j) ⊎ (1 ≤ a) → a ≢ link j .next) → Misses (backFrom t i j q a) (concatBelow (sides t i r master link) (entryOf t i .count))
+  sides-prior j q a d = misses-below (backFrom t i j q a) (sides t i r master link) (entryOf t i .count) (λ k l. by k (same? j k))
     where
-      by : (k : ℕ) → (j ≡ k) ⊎ (j ≢ k) → Misses (priorAt t i j q a) (sides t i r master link k)
+      by : (k : ℕ) → (j ≡ k) ⊎ (j ≢ k) → Misses (backFrom t i j q a) (sides t i r master link k)
       by k (inl e) =
           rw (← e) (prior-not-next t i j q a i j (master j) (link j .prior), (prior-other-node t i j q a (master j) (link j .next) (another q (master j) a (link j .next) d), tt))
       by k (inr n) = prior-path i j q a k (λ e. n (e .1))
 
   -- every record that is not live
   off-node : (n q j a : ℕ) → j < entryOf t i .count → Node t b i a → isLive b (entryOf t n) q ≡ false
-      → Elsewhere n q (nextAt t i j (master j) a .set) (nextAt t i j (master j) a .at) × Elsewhere n q (priorAt t i j (master j) a .set) (priorAt t i j (master j) a .at)
+      → Elsewhere n q (forwardFrom t i j (master j) a .set) (forwardFrom t i j (master j) a .at) × Elsewhere n q (backFrom t i j (master j) a .set) (backFrom t i j (master j) a .at)
   off-node n q j zero l s z =
       let no : Elsewhere n q (pathOf (entryOf t i) j .master .0) (master j) = λ d. never-both (isLive b (entryOf t n) q) (rw (d .0, d .1) (h .masters j l .1)) z in
       (no, no)
@@ -151,18 +152,18 @@ module _ {t : Schema} {b : List ℕ} {i r : ℕ} {ys area : List ℕ} {master : 
 
   -- ---- what they leave at the neighbours' nodes
 
-  pub next-set : (j : ℕ) → j < entryOf t i .count → getWord t (after t b (addDeeds t i r ys master link)) (nextAt t i j (master j) (link j .prior)) ≡ r
+  pub next-set : (j : ℕ) → j < entryOf t i .count → getWord t (after t b (addDeeds t i r ys master link)) (forwardFrom t i j (master j) (link j .prior)) ≡ r
   next-set j l =
-      let a = nextAt t i j (master j) (link j .prior) in
-      let z = priorAt t i j (master j) (link j .next) in
+      let a = forwardFrom t i j (master j) (link j .prior) in
+      let z = backFrom t i j (master j) (link j .next) in
       let cut = misses-but a (sides t i r master link) (entryOf t i .count) j l (λ k m d. next-path i j (master j) (link j .prior) k (λ e. d (sym (e .1)))) in
       let valid = rw (cut .2) at add-valid in
       rw (cut .2) (word-pointed (h .world .ok) b (h .sized) (whole i r ys ∷ cut .0) a r (point z r ∷ cut .1) valid (next-not-prior t i j (master j) (link j .prior) i j (master j) (link j .next), cut .4))
 
-  pub prior-set : (j : ℕ) → j < entryOf t i .count → getWord t (after t b (addDeeds t i r ys master link)) (priorAt t i j (master j) (link j .next)) ≡ r
+  pub prior-set : (j : ℕ) → j < entryOf t i .count → getWord t (after t b (addDeeds t i r ys master link)) (backFrom t i j (master j) (link j .next)) ≡ r
   prior-set j l =
-      let a = nextAt t i j (master j) (link j .prior) in
-      let z = priorAt t i j (master j) (link j .next) in
+      let a = forwardFrom t i j (master j) (link j .prior) in
+      let z = backFrom t i j (master j) (link j .next) in
       let cut = misses-but z (sides t i r master link) (entryOf t i .count) j l (λ k m d. prior-path i j (master j) (link j .next) k (λ e. d (sym (e .1)))) in
       let e : concatBelow (sides t i r master link) (entryOf t i .count) ≡ (cut .0 ++ (point a r ∷ [])) ++ (point z r ∷ cut .1) = cut .2 ∙ sym (append-assoc (cut .0) (point a r ∷ []) (point z r ∷ cut .1)) in
       rw e (word-pointed (h .world .ok) b (h .sized) (whole i r ys ∷ (cut .0 ++ (point a r ∷ []))) z r (cut .1) (rw e at add-valid) (cut .4))

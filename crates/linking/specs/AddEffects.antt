@@ -29,9 +29,11 @@ use Rattle.keeping.specs.Rows.{nextNode, priorNode}
 use Rattle.keeping.specs.DeedLaws.{length-after, word-missed, word-whole, run-missed, run-whole, state-missed, state-whole, record-missed}
 use Rattle.keeping.specs.SettleLaws.{sealed-after, clean-after, free-zero}
 use Rattle.linking.specs.Changes.{Changed}
-use Rattle.linking.specs.Nodes.{nextAt, priorAt, nextNode-is, priorNode-is, nextAt-record, priorAt-record, nextAt-word, priorAt-word}
+use Rattle.chains.specs.SideLaws.{forwardFrom, backFrom}
+use Rattle.linking.specs.Nodes.{nextNode-is, priorNode-is, forward-record, back-record, forward-word, back-word}
 use Rattle.linking.specs.PointSteps.{PointStep}
-use Rattle.linking.specs.AreaMade.{variable-set, area-same, area-made}
+use Rattle.linking.specs.AreaMade.{area-same, area-made}
+use Rattle.records.specs.KindLaws.{is-variable}
 use Rattle.linking.specs.AddDeeds.{sides, addDeeds, Adding, is-path, add-valid, add-zeroed, sides-spared, not-node, sides-no-pointer, sides-next-set, sides-prior-set, sides-next, sides-prior, add-off, next-set, prior-set}
 
 -- the data base after the add
@@ -64,23 +66,23 @@ module _ {t : Schema} {b : List ℕ} {i r : ℕ} {ys area : List ℕ} {master : 
 
   -- a node of any path but those that the pointers go to
   module _ (n j m a : ℕ) (p : IsPathOf t n j) (s : InSet (mastersOn t (entryOf t n) j) m) (l : a ≤ entryOf t n .records) (d : Elsewhere n a i r) where
-    next-same : Misses (nextAt t n j m a) (concatBelow (sides t i r master link) (entryOf t i .count)) → nextNode t (added t b i r ys master link) n j m a ≡ nextNode t b n j m a
+    next-same : Misses (forwardFrom t n j m a) (concatBelow (sides t i r master link) (entryOf t i .count)) → nextNode t (added t b i r ys master link) n j m a ≡ nextNode t b n j m a
     next-same u =
         nextNode-is t (added t b i r ys master link) n j m a
-        ∙ word-missed (h .world .ok) b (h .sized) (addDeeds t i r ys master link) (nextAt t n j m a) (add-valid h) (nextAt-word t (h .world .ok) n j m a p s l) (off a d, u)
+        ∙ word-missed (h .world .ok) b (h .sized) (addDeeds t i r ys master link) (forwardFrom t n j m a) (add-valid h) (forward-word t (h .world .ok) n j m a p s l) (off a d, u)
         ∙ sym (nextNode-is t b n j m a)
       where
-        off : (a : ℕ) → Elsewhere n a i r → Elsewhere (nextAt t n j m a .set) (nextAt t n j m a .at) i r
+        off : (a : ℕ) → Elsewhere n a i r → Elsewhere (forwardFrom t n j m a .set) (forwardFrom t n j m a .at) i r
         off zero k e = omega (arith, h .set, h .world .ok .path n j p .master, e .0)
         off (suc a) k e = k e
 
-    prior-same : Misses (priorAt t n j m a) (concatBelow (sides t i r master link) (entryOf t i .count)) → priorNode t (added t b i r ys master link) n j m a ≡ priorNode t b n j m a
+    prior-same : Misses (backFrom t n j m a) (concatBelow (sides t i r master link) (entryOf t i .count)) → priorNode t (added t b i r ys master link) n j m a ≡ priorNode t b n j m a
     prior-same u =
         priorNode-is t (added t b i r ys master link) n j m a
-        ∙ word-missed (h .world .ok) b (h .sized) (addDeeds t i r ys master link) (priorAt t n j m a) (add-valid h) (priorAt-word t (h .world .ok) n j m a p s l) (off a d, u)
+        ∙ word-missed (h .world .ok) b (h .sized) (addDeeds t i r ys master link) (backFrom t n j m a) (add-valid h) (back-word t (h .world .ok) n j m a p s l) (off a d, u)
         ∙ sym (priorNode-is t b n j m a)
       where
-        off : (a : ℕ) → Elsewhere n a i r → Elsewhere (priorAt t n j m a .set) (priorAt t n j m a .at) i r
+        off : (a : ℕ) → Elsewhere n a i r → Elsewhere (backFrom t n j m a .set) (backFrom t n j m a .at) i r
         off zero k e = omega (arith, h .set, h .world .ok .path n j p .master, e .0)
         off (suc a) k e = k e
 
@@ -102,14 +104,14 @@ module _ {t : Schema} {b : List ℕ} {i r : ℕ} {ys area : List ℕ} {master : 
     next-new =
         next-of t (added t b i r ys master link) i j (master j) r (h .in-set .0)
         ∙ word-whole (h .world .ok) b (h .sized) [] i r ys (concatBelow (sides t i r master link) (entryOf t i .count)) (next j) (add-valid h) (is-path h j l) refl
-        (rw (nextAt-record t i j (master j) r (h .in-set .0)) at (sides-next h j (master j) r (λ _. not-node h (link j .prior) (h .priors j l))))
+        (rw (forward-record t i j (master j) r (h .in-set .0)) at (sides-next h j (master j) r (λ _. not-node h (link j .prior) (h .priors j l))))
         ∙ h .next-word j l
 
     prior-new : priorNode t (added t b i r ys master link) i j (master j) r ≡ link j .prior
     prior-new =
         prior-of t (added t b i r ys master link) i j (master j) r (h .in-set .0)
         ∙ word-whole (h .world .ok) b (h .sized) [] i r ys (concatBelow (sides t i r master link) (entryOf t i .count)) (prior j) (add-valid h) (is-path h j l) refl
-        (rw (priorAt-record t i j (master j) r (h .in-set .0)) at (sides-prior h j (master j) r (λ _. not-node h (link j .next) (h .nexts j l))))
+        (rw (back-record t i j (master j) r (h .in-set .0)) at (sides-prior h j (master j) r (λ _. not-node h (link j .next) (h .nexts j l))))
         ∙ h .prior-word j l
 
     -- ---- path j of its set
@@ -163,7 +165,7 @@ module _ {t : Schema} {b : List ℕ} {i r : ℕ} {ys area : List ℕ} {master : 
               last = λ m s. prior-same k j m 0 p s (omega arith) (λ e. d (e .0)) (sides-prior-set h k j m 0 d);
             };
         areas = λ k q u v s d.
-            area-same b (added t b i r ys master link) (entryOf t k) q (h .world .fields k v) (variable-set t (h .world .ok) k u v)
+            area-same b (added t b i r ys master link) (entryOf t k) q (h .world .fields k v) (is-variable t (h .world .ok) k u v)
             (λ j l. run-same k q (key j) d refl refl refl refl (v, s, (u, v, l)))
             (run-same k q body d refl refl refl refl (v, s, v));
       }
@@ -185,7 +187,7 @@ module _ {t : Schema} {b : List ℕ} {i r : ℕ} {ys area : List ℕ} {master : 
   -- the new record reads into the area
   pub add-reads : length area ≡ areaLength (entryOf t i) → areaOf (added t b i r ys master link) (entryOf t i) r ≡ area
   add-reads l =
-      area-made (added t b i r ys master link) (entryOf t i) r area (h .world .fields i (h .set .1)) (variable-set t (h .world .ok) i (h .set .0) (h .set .1)) l key-new
+      area-made (added t b i r ys master link) (entryOf t i) r area (h .world .fields i (h .set .1)) (is-variable t (h .world .ok) i (h .set .0) (h .set .1)) l key-new
       (run-whole (h .world .ok) b (h .sized) [] i r ys (concatBelow (sides t i r master link) (entryOf t i .count)) body (add-valid h) (h .set .1)
       (sides-no-pointer h i r body refl refl refl refl)
       ∙ h .rest)

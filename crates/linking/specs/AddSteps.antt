@@ -39,9 +39,11 @@ use Rattle.housing.specs.FindLaws.{find-at}
 use Rattle.housing.specs.QuietLaws.{free-place}
 use Rattle.linking.specs.Neighbours.{OnRow, spot-cut}
 use Rattle.linking.specs.RowChange.{add-row}
-use Rattle.linking.specs.Nodes.{priorSide-is, nextSide-is}
-use Rattle.linking.specs.PointSteps.{PointStep, rows-same, point-step-keeps}
-use Rattle.linking.specs.AreaMade.{variable-set, concat-same}
+use Rattle.chains.specs.SideLaws.{priorSide-is, nextSide-is}
+use Rattle.linking.specs.PointSteps.{PointStep, point-step-keeps}
+use Rattle.linking.specs.RowFacts.{rows-same}
+use Rattle.octets.specs.BelowLaws.{concatBelow-same}
+use Rattle.records.specs.KindLaws.{is-variable}
 use Rattle.linking.specs.AddDeeds.{sides, addDeeds, Node, node-most, Adding, add-valid}
 use Rattle.linking.specs.AddEffects.{add-changed, add-step, add-reads}
 
@@ -77,7 +79,7 @@ module _ (t : Schema) (b : List ℕ) (i named : ℕ) (area : List ℕ) (spot : S
       let link = addLink b t (entryOf t i) area spot named in
       rw (storesFor-below t (sides t i r master link) (entryOf t i .count))
       (ap (λ (xs : List Store). storeRecord (entryOf t i) r newBytes ∷ xs)
-      (concat-same (λ k. linkBetween (entryOf t i) (pathOf (entryOf t i) k) (mastersOn t (entryOf t i) k) (master k) (link k) r) (λ k. storesFor t (sides t i r master link k)) (entryOf t i .count)
+      (concatBelow-same (λ k. linkBetween (entryOf t i) (pathOf (entryOf t i) k) (mastersOn t (entryOf t i) k) (master k) (link k) r) (λ k. storesFor t (sides t i r master link k)) (entryOf t i .count)
       (λ k l. rw (priorSide-is t i k (master k) (link k .prior) r, nextSide-is t i k (master k) (link k .next) r) refl)))
 
 module _ (t : Schema) (w : World t) (b : List ℕ) (rows : ℕ → ℕ → List ℕ → List ℕ) (g : Represents t b rows) (i named : ℕ) (area : List ℕ) (spot : Spot)
@@ -124,7 +126,7 @@ module _ (t : Schema) (w : World t) (b : List ℕ) (rows : ℕ → ℕ → List 
       let links = upto link (e .count) in
       let set-ok = w .ok .set i (ok .path .1) in
       let f = w .fields i (ok .path .1) in
-      let v = variable-set t (w .ok) i (ok .path .0) (ok .path .1) in
+      let v = is-variable t (w .ok) i (ok .path .0) (ok .path .1) in
       let at : (k : ℕ) → k < e .count → getD links k noLink ≡ link k = λ k l. getD-upto link (e .count) k noLink l in
       let small : (a : ℕ) → Node t b i a → a < 4294967296 = λ a n. omega (arith, node-most t b i a n) in
       record {

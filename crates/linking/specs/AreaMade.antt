@@ -6,28 +6,16 @@ use mathlib.Core.Bool.{false}
 use mathlib.Core.List.{List, [], _∷_, _++_, append-nil, append-assoc}
 use native.Mathlib.Omega.{arith}
 use native.Mathlib.Numerals.{add-one}
-use borrow.Author.Tests.{ne-eqb}
 use lib.ListN.{length, take, drop, length-drop, take-append-drop}
 use lib.Seq.{take-suc, take-all, take-add}
 use Rattle.octets.specs.Below.{concatBelow}
 use Rattle.schema.specs.declared.Path.{Path}
 use Rattle.schema.specs.declared.Entry.{Entry}
-use Rattle.schema.specs.declared.Schema.{Schema}
-use Rattle.schema.specs.Decode.{noPath, entryOf, pathOf, setCount}
-use Rattle.schema.specs.Guarantee.{SchemaOk}
+use Rattle.schema.specs.Decode.{noPath, pathOf}
 use Rattle.records.specs.Records.{bodyOf, keyOn}
 use Rattle.records.specs.Areas.{isMaster, areaKeyPlace, areaKeys, areaLength, areaKeyOn, areaBody, keysOn, areaOf}
+use Rattle.octets.specs.BelowLaws.{concatBelow-same}
 use Rattle.areas.specs.AreaLaws.{Fields, variable-keys, area-key-first, area-key-turn}
-
--- a set behind the masters is a variable one
-pub variable-set : (t : Schema) → SchemaOk t → (k : ℕ) → t .masters ≤ k → k < setCount t → isMaster (entryOf t k) ≡ false
-variable-set t ok k u v = ne-eqb (entryOf t k .kind) 1 (λ e. omega (arith, ok .variable k u v .kind))
-
--- lists that are the same one by one
-pub concat-same {ℓ} : {A : Type ℓ} (f g : ℕ → List A) (n : ℕ) → ((k : ℕ) → k < n → f k ≡ g k) → concatBelow f n ≡ concatBelow g n
-unfolding concatBelow
-concat-same f g zero h = refl
-concat-same f g (suc n) h = rw (concat-same f g n (λ k l. h k (omega arith)), h n (omega arith)) refl
 
 -- an area by its keys
 module _ (c : List ℕ) (e : Entry) (r : ℕ) where
@@ -49,7 +37,7 @@ module _ (c : List ℕ) (e : Entry) (r : ℕ) where
 pub area-same : (b c : List ℕ) (e : Entry) (r : ℕ) → Fields e → isMaster e ≡ false → ((k : ℕ) → k < e .count → keyOn c e r (pathOf e k) ≡ keyOn b e r (pathOf e k))
     → bodyOf c e r ≡ bodyOf b e r → areaOf c e r ≡ areaOf b e r
 area-same b c e r f v ks d =
-    rw (area-is c e r f v, area-is b e r f v, concat-same (λ k. keyOn c e r (pathOf e k)) (λ k. keyOn b e r (pathOf e k)) (e .count) ks, d) refl
+    rw (area-is c e r f v, area-is b e r f v, concatBelow-same (λ k. keyOn c e r (pathOf e k)) (λ k. keyOn b e r (pathOf e k)) (e .count) ks, d) refl
 
 -- the keys of an area, one behind the other, are its first bytes
 area-keys : (e : Entry) (area : List ℕ) (n : ℕ) → concatBelow (areaKeyOn e area) n ≡ take (areaKeyPlace e n) area
@@ -63,5 +51,5 @@ pub area-made : (c : List ℕ) (e : Entry) (r : ℕ) (area : List ℕ) → Field
 area-made c e r area f v l ks d =
     let rest : areaBody e area ≡ drop (areaKeys e) area = take-all (e .room) (drop (areaKeys e) area) (rw length-drop (omega arith)) in
     area-is c e r f v
-    ∙ (rw (concat-same (λ k. keyOn c e r (pathOf e k)) (areaKeyOn e area) (e .count) ks, area-keys e area (e .count), d, rest, variable-keys e v)
+    ∙ (rw (concatBelow-same (λ k. keyOn c e r (pathOf e k)) (areaKeyOn e area) (e .count) ks, area-keys e area (e .count), d, rest, variable-keys e v)
     (take-append-drop (areaKeyPlace e (e .count)) area))

@@ -24,9 +24,11 @@ use Rattle.keeping.specs.Rows.{World, Represents, Mine}
 use Rattle.keeping.specs.Tests.{DelTests}
 use Rattle.keeping.specs.DeedLaws.{valid-append, valid-below, zeroed-append, zeroed-below, storesFor-append, storesFor-below}
 use Rattle.housing.specs.FindLaws.{find-at}
-use Rattle.linking.specs.Nodes.{nextAt, priorAt, nextAt-word, priorAt-word, priorSide-is, nextSide-is}
+use Rattle.chains.specs.SideLaws.{forwardFrom, backFrom, priorSide-is, nextSide-is}
+use Rattle.linking.specs.Nodes.{forward-word, back-word}
 use Rattle.linking.specs.Neighbours.{point-cut, own-found}
-use Rattle.linking.specs.PointDeeds.{AllOnPoint, on-append, on-below, variable-kind}
+use Rattle.linking.specs.PointDeeds.{AllOnPoint, on-append, on-below}
+use Rattle.records.specs.KindLaws.{is-variable}
 
 -- ---- the deeds
 
@@ -42,7 +44,7 @@ module _ (t : Schema) (b : List ℕ) (i r : ℕ) where
   behind k = nextOn b (entryOf t i) r (pathOf (entryOf t i) k)
 
   abbrev pub unlinks : ℕ → List Deed
-  unlinks k = point (nextAt t i k (masterAt k) (before k)) (behind k) ∷ point (priorAt t i k (masterAt k) (behind k)) (before k) ∷ []
+  unlinks k = point (forwardFrom t i k (masterAt k) (before k)) (behind k) ∷ point (backFrom t i k (masterAt k) (behind k)) (before k) ∷ []
 
   abbrev pub wiping : List Deed
   wiping = whole i r (zeros (entryOf t i .size)) ∷ []
@@ -73,11 +75,11 @@ module _ (t : Schema) (b : List ℕ) (i r : ℕ) where
   near-bound : (n : ℕ) → Near t b i r n → n ≤ entryOf t i .records
   near-bound n h = ⊎-elim (λ e. omega arith) (λ l. l .0 .1) (h .1)
 
-  next-live : (k m n : ℕ) → Live b (mastersOn t (entryOf t i) k) m → Near t b i r n → Live b (entryOf t (nextAt t i k m n .set)) (nextAt t i k m n .at)
+  next-live : (k m n : ℕ) → Live b (mastersOn t (entryOf t i) k) m → Near t b i r n → Live b (entryOf t (forwardFrom t i k m n .set)) (forwardFrom t i k m n .at)
   next-live k m zero l h = l
   next-live k m (suc n) l h = ⊎-elim (λ e. absurd (omega arith)) (λ s. s) (h .1)
 
-  prior-live : (k m n : ℕ) → Live b (mastersOn t (entryOf t i) k) m → Near t b i r n → Live b (entryOf t (priorAt t i k m n .set)) (priorAt t i k m n .at)
+  prior-live : (k m n : ℕ) → Live b (mastersOn t (entryOf t i) k) m → Near t b i r n → Live b (entryOf t (backFrom t i k m n .set)) (backFrom t i k m n .at)
   prior-live k m zero l h = l
   prior-live k m (suc n) l h = ⊎-elim (λ e. absurd (omega arith)) (λ s. s) (h .1)
 
@@ -126,8 +128,8 @@ module _ (t : Schema) (w : World t) (b : List ℕ) (rows : ℕ → ℕ → List 
     path-valid =
         let h = neighbours in
         let m = masterAt t b i r k in (
-          (nextAt-word t (w .ok) i k m (before t b i r k) path (own-master .0 .0) (near-bound t b i r (before t b i r k) (h .0)), small (behind t b i r k) (h .1)),
-          ((priorAt-word t (w .ok) i k m (behind t b i r k) path (own-master .0 .0) (near-bound t b i r (behind t b i r k) (h .1)), small (before t b i r k) (h .0)), tt),
+          (forward-word t (w .ok) i k m (before t b i r k) path (own-master .0 .0) (near-bound t b i r (before t b i r k) (h .0)), small (behind t b i r k) (h .1)),
+          ((back-word t (w .ok) i k m (behind t b i r k) path (own-master .0 .0) (near-bound t b i r (behind t b i r k) (h .1)), small (before t b i r k) (h .0)), tt),
         )
 
     path-on : AllOnPoint t b i r (unlinks t b i r k)
@@ -146,7 +148,7 @@ module _ (t : Schema) (w : World t) (b : List ℕ) (rows : ℕ → ℕ → List 
   pub del-zeroed : AllZeroed (delDeeds t b i r)
   del-zeroed =
       let s = w .ok .set i (ok .set .1) .sized in
-      let f = head-inside (entryOf t i) (w .fields i (ok .set .1)) (variable-kind t (w .ok) i (ok .set .0) (ok .set .1)) in
+      let f = head-inside (entryOf t i) (w .fields i (ok .set .1)) (is-variable t (w .ok) i (ok .set .0) (ok .set .1)) in
       zeroed-append (concatBelow (unlinks t b i r) (entryOf t i .count)) (wiping t b i r) (zeroed-below (unlinks t b i r) (entryOf t i .count) (λ k l. (tt, (tt, tt))))
       (wiped-head (entryOf t i .size) (omega arith), tt)
 

@@ -29,7 +29,8 @@ use Rattle.keeping.specs.Tests.{DelTests}
 use Rattle.linking.specs.Changes.{Changed}
 use Rattle.keeping.specs.DeedLaws.{misses-append, misses-below, misses-but, word-missed, word-pointed, state-whole, record-whole}
 use Rattle.keeping.specs.SettleLaws.{storable}
-use Rattle.linking.specs.Nodes.{nextAt, priorAt, nextNode-is, priorNode-is, nextAt-word, priorAt-word, next-not-prior, prior-not-next, next-other-path, prior-other-path, next-other-node, prior-other-node}
+use Rattle.chains.specs.SideLaws.{forwardFrom, backFrom}
+use Rattle.linking.specs.Nodes.{nextNode-is, priorNode-is, forward-word, back-word, next-not-prior, prior-not-next, next-other-path, prior-other-path, next-other-node, prior-other-node}
 use Rattle.linking.specs.PointSteps.{PointStep, point-step-keeps}
 use Rattle.linking.specs.RowChange.{del-row}
 use Rattle.linking.specs.PointDeeds.{run-kept, live-kept, deeds-step}
@@ -37,11 +38,11 @@ use Rattle.linking.specs.DelDeeds.{masterAt, before, behind, unlinks, wi
 
 -- a node other than r stands in another record
 module _ (t : Schema) (w : World t) (i j m r : ℕ) (p : IsPathOf t i j) where
-  next-elsewhere : (n : ℕ) → n ≢ r → Elsewhere (nextAt t i j m n .set) (nextAt t i j m n .at) i r
+  next-elsewhere : (n : ℕ) → n ≢ r → Elsewhere (forwardFrom t i j m n .set) (forwardFrom t i j m n .at) i r
   next-elsewhere zero d e = let l = w .ok .path i j p .master in let q = p .0 in omega arith
   next-elsewhere (suc n) d e = d (e .1)
 
-  prior-elsewhere : (n : ℕ) → n ≢ r → Elsewhere (priorAt t i j m n .set) (priorAt t i j m n .at) i r
+  prior-elsewhere : (n : ℕ) → n ≢ r → Elsewhere (backFrom t i j m n .set) (backFrom t i j m n .at) i r
   prior-elsewhere zero d e = let l = w .ok .path i j p .master in let q = p .0 in omega arith
   prior-elsewhere (suc n) d e = d (e .1)
 
@@ -98,14 +99,14 @@ module _ (t : Schema) (w : World t) (b : List ℕ) (rows : ℕ → ℕ → List 
     next-set =
         let m = masterAt t b i r j in
         let n = before t b i r j in
-        let a = nextAt t i j m n in
+        let a = forwardFrom t i j m n in
         let s = misses-but a (unlinks t b i r) (entryOf t i .count) j l (next-off-others m n) in
-        let back = point (priorAt t i j m (behind t b i r j)) n in
+        let back = point (backFrom t i j m (behind t b i r j)) n in
         nextNode-is t left i j m n
         ∙ pointed t w b rows g (delDeeds t b i r) (s .0) a (behind t b i r j) (back ∷ (s .1 ++ wiping t b i r)) (cut (s .0) (s .1) (s .2)) valid
         (next-not-prior t i j m n i j m (behind t b i r j), misses-append a (s .1) (wiping t b i r) (s .4) (next-elsewhere t w i j m r path n (near .0), tt))
       where
-        next-off-others : (m n k : ℕ) → k < entryOf t i .count → k ≢ j → Misses (nextAt t i j m n) (unlinks t b i r k)
+        next-off-others : (m n k : ℕ) → k < entryOf t i .count → k ≢ j → Misses (forwardFrom t i j m n) (unlinks t b i r k)
         next-off-others m n k z d =
             (next-other-path t i j i k m n (masterAt t b i r k) (before t b i r k) (λ h. d (sym (h .1))), (next-not-prior t i j m n i k (masterAt t b i r k) (behind t b i r k), tt))
 
@@ -113,16 +114,16 @@ module _ (t : Schema) (w : World t) (b : List ℕ) (rows : ℕ → ℕ → List 
     prior-set =
         let m = masterAt t b i r j in
         let n = behind t b i r j in
-        let a = priorAt t i j m n in
+        let a = backFrom t i j m n in
         let s = misses-but a (unlinks t b i r) (entryOf t i .count) j l (prior-off-others m n) in
-        let forth = point (nextAt t i j m (before t b i r j)) n in
+        let forth = point (forwardFrom t i j m (before t b i r j)) n in
         let rest = point a (before t b i r j) ∷ (s .1 ++ wiping t b i r) in
         priorNode-is t left i j m n
         ∙ pointed t w b rows g (delDeeds t b i r) (s .0 ++ (forth ∷ [])) a (before t b i r j) (s .1 ++ wiping t b i r)
         (cut (s .0) (s .1) (s .2) ∙ sym (append-assoc (s .0) (forth ∷ []) rest)) valid
         (misses-append a (s .1) (wiping t b i r) (s .4) (prior-elsewhere t w i j m r path n (near .1), tt))
       where
-        prior-off-others : (m n k : ℕ) → k < entryOf t i .count → k ≢ j → Misses (priorAt t i j m n) (unlinks t b i r k)
+        prior-off-others : (m n k : ℕ) → k < entryOf t i .count → k ≢ j → Misses (backFrom t i j m n) (unlinks t b i r k)
         prior-off-others m n k z d =
             (prior-not-next t i j m n i k (masterAt t b i r k) (before t b i r k), (prior-other-path t i j i k m n (masterAt t b i r k) (behind t b i r k) (λ h. d (sym (h .1))), tt))
 
@@ -131,11 +132,11 @@ module _ (t : Schema) (w : World t) (b : List ℕ) (rows : ℕ → ℕ → List 
         → nextNode t left i j q a ≡ nextNode t b i j q a
     next-else q a in-q in-a d h =
         nextNode-is t left i j q a
-        ∙ word-left (nextAt t i j q a) (nextAt-word t (w .ok) i j q a path in-q in-a) (next-elsewhere t w i j q r path a d)
+        ∙ word-left (forwardFrom t i j q a) (forward-word t (w .ok) i j q a path in-q in-a) (next-elsewhere t w i j q r path a d)
         (λ k. (by k (same? k j), (next-not-prior t i j q a i k (masterAt t b i r k) (behind t b i r k), tt)))
         ∙ sym (nextNode-is t b i j q a)
       where
-        by : (k : ℕ) → (k ≡ j) ⊎ (k ≢ j) → nextAt t i j q a ≢ nextAt t i k (masterAt t b i r k) (before t b i r k)
+        by : (k : ℕ) → (k ≡ j) ⊎ (k ≢ j) → forwardFrom t i j q a ≢ forwardFrom t i k (masterAt t b i r k) (before t b i r k)
         by k (inl e) = rw e (next-other-node t i j q a (masterAt t b i r j) (before t b i r j) (λ s. (other-head a h s, λ y. h (inl y) s)))
         by k (inr n) = next-other-path t i j i k q a (masterAt t b i r k) (before t b i r k) (λ s. n (sym (s .1)))
 
@@ -143,11 +144,11 @@ module _ (t : Schema) (w : World t) (b : List ℕ) (rows : ℕ → ℕ → List 
         → priorNode t left i j q a ≡ priorNode t b i j q a
     prior-else q a in-q in-a d h =
         priorNode-is t left i j q a
-        ∙ word-left (priorAt t i j q a) (priorAt-word t (w .ok) i j q a path in-q in-a) (prior-elsewhere t w i j q r path a d)
+        ∙ word-left (backFrom t i j q a) (back-word t (w .ok) i j q a path in-q in-a) (prior-elsewhere t w i j q r path a d)
         (λ k. (prior-not-next t i j q a i k (masterAt t b i r k) (before t b i r k), (by k (same? k j), tt)))
         ∙ sym (priorNode-is t b i j q a)
       where
-        by : (k : ℕ) → (k ≡ j) ⊎ (k ≢ j) → priorAt t i j q a ≢ priorAt t i k (masterAt t b i r k) (behind t b i r k)
+        by : (k : ℕ) → (k ≡ j) ⊎ (k ≢ j) → backFrom t i j q a ≢ backFrom t i k (masterAt t b i r k) (behind t b i r k)
         by k (inl e) = rw e (prior-other-node t i j q a (masterAt t b i r j) (behind t b i r j) (λ s. (other-head a h s, λ y. h (inl y) s)))
         by k (inr n) = prior-other-path t i j i k q a (masterAt t b i r k) (behind t b i r k) (λ s. n (sym (s .1)))
 

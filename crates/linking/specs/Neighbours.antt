@@ -22,7 +22,7 @@ use Rattle.records.specs.Areas.{areaKeyOn}
 use Rattle.masters.specs.Find.{isAt}
 use Rattle.chains.specs.Chains.{badNeighbour, unevenEnds, readDamaged}
 use Rattle.chains.specs.Points.{mastersOn, findOn, masterOn, damagedOn, spotOn, neighboursAt, addKey, addLink, addDamaged, ownKey, ownLink, delDamaged}
-use Rattle.chains.specs.Members.{In, Fresh, all-in, in-all, all-map, all-left, all-right, in-left, in-right, split-in, nodup-without}
+use Rattle.chains.specs.Members.{In, Fresh, all-in, in-all, all-left, all-right, in-left, in-right, split-in, nodup-without}
 use Rattle.chains.specs.Segments.{Seg, NoZero, lastOr, headOr, last-snoc, all-last, all-head, seg-nodup, at-ends, at-node, headed-at}
 use Rattle.chains.specs.declared.Spot.{Spot}
 use Rattle.chains.specs.declared.Spot.the-variants.{Last, After, Before}
@@ -31,6 +31,7 @@ use Rattle.sound.specs.KeyLaws.{Live, MasterSet}
 use Rattle.keeping.specs.Rows.{World, Represents, nextNode, priorNode, Mine, PathRows, inserted}
 use Rattle.keeping.specs.Tests.{SpotOk, AddTests, DelTests}
 use Rattle.linking.specs.Cuts.{after-cut, before-cut}
+use Rattle.linking.specs.RowFacts.{row-nozero}
 use Rattle.housing.specs.FindLaws.{find-live, find-at}
 
 -- the record that a spot refers to is on the row of the key
@@ -38,10 +39,6 @@ abbrev pub OnRow : Schema → List ℕ → ℕ → ℕ → List ℕ → Spot →
 OnRow t b i j key Last = Unit {0}
 OnRow t b i j key (After q) = Mine t b i j key (q .0)
 OnRow t b i j key (Before q) = Mine t b i j key (q .0)
-
--- a row has records only
-pub row-numbers : (t : Schema) (b : List ℕ) (i j : ℕ) (rows : List ℕ → List ℕ) (key : List ℕ) → PathRows t b i j rows → NoZero (rows key)
-row-numbers t b i j rows key p = all-map (Mine t b i j key) (λ a. 1 ≤ a) (λ a h. h .0 .0 .0) (rows key) (p .mine key)
 
 module _ (t : Schema) (b : List ℕ) (i j : ℕ) (rows : List ℕ → List ℕ) (m : ℕ) (key : List ℕ) where
   abbrev set : Entry
@@ -75,7 +72,7 @@ module _ (t : Schema) (b : List ℕ) (i j : ℕ) (rows : List ℕ → List ℕ) 
       → (us : List ℕ) × (vs : List ℕ) × (rows key ≡ us ++ (r ∷ vs)) × (priorOn b set r path ≡ lastOr 0 us) × (nextOn b set r path ≡ headOr 0 vs) × Fresh r us × Fresh r vs
   point-cut r p l k h =
       let c = split-in r (rows key) (rw (h .1) at (p .full r (h .0))) in
-      let f = cut-at r (c .0) (c .1) (c .2) (h .0 .0 .0) (chain-of p l k) (row-numbers t b i j rows key p) in
+      let f = cut-at r (c .0) (c .1) (c .2) (h .0 .0 .0) (chain-of p l k) (row-nozero t b i j rows key p) in
       (c .0, c .1, c .2, f .0, f .1, f .2, f .3)
 
   -- where a spot cuts the row, and that a new record comes between the pieces
@@ -115,7 +112,7 @@ pub even-ends : (t : Schema) (b : List ℕ) (i j : ℕ) (rows : List ℕ → Lis
 even-ends t b i j rows m p l =
     let key = masterKey b (mastersOn t (entryOf t i) j) m in
     let n = at-ends (nextNode t b i j m) (priorNode t b i j m) 0 (rows key) 0 (p .chain m l) in
-    even (rows key) _ _ (row-numbers t b i j rows key p) (n .0) (n .1)
+    even (rows key) _ _ (row-nozero t b i j rows key p) (n .0) (n .1)
 
 pub good-neighbour : (t : Schema) (b : List ℕ) (i j : ℕ) (rows : List ℕ → List ℕ) (key : List ℕ) → PathRows t b i j rows → (n : ℕ) → (n ≡ 0) ⊎ In n (rows key)
     → badNeighbour b (entryOf t i) (pathOf (entryOf t i) j) key n ≡ false

@@ -8,7 +8,6 @@ use mathlib.Core.Bool.{true, false}
 use mathlib.Core.List.{List, [], _∷_, _++_}
 use native.Mathlib.Omega.{arith}
 use native.Mathlib.Decide.{ℕ-discrete}
-use borrow.Author.Tests.{ne-eqb}
 use lib.Dec.{eqb}
 use lib.ListN.{drop}
 use Rattle.octets.specs.Octets.{allZero}
@@ -18,12 +17,13 @@ use Rattle.schema.specs.declared.Entry.{Entry}
 use Rattle.schema.specs.declared.Schema.{Schema}
 use Rattle.schema.specs.Decode.{entryOf, pathOf, pathsOf, setCount}
 use Rattle.schema.specs.Place.{InSet, recordOf}
-use Rattle.schema.specs.Guarantee.{SchemaOk, IsPathOf}
+use Rattle.schema.specs.Guarantee.{IsPathOf}
 use Rattle.records.specs.Address.{Field, root-next, root-prior, own-key, body, key, Address, IsAddress, getWord, getRun}
 use Rattle.records.specs.AddressLaws.{address, fieldKind}
 use Rattle.records.specs.FieldLaws.{IsWord}
 use Rattle.records.specs.WholeRecords.{Elsewhere}
 use Rattle.records.specs.Records.{isLive, keyOn, priorOn, nextOn, bodyOf}
+use Rattle.records.specs.KindLaws.{is-variable}
 use Rattle.records.specs.Areas.{isMaster, keysOn, areaOf}
 use Rattle.areas.specs.AreaLaws.{Fields, paths-step, paths-done}
 use Rattle.chains.specs.Points.{mastersOn}
@@ -33,14 +33,15 @@ use Rattle.keeping.specs.Frames.{SameMasters, SameHeads, SamePoints}
 use Rattle.keeping.specs.Rows.{World, Represents}
 use Rattle.keeping.specs.DeedLaws.{length-after, word-missed, run-missed, state-missed, record-missed}
 use Rattle.keeping.specs.SettleLaws.{sealed-after, clean-after, free-zero}
-use Rattle.linking.specs.Nodes.{nextAt, priorAt, nextAt-word, priorAt-word, next-not-prior, prior-not-next, next-other-path, prior-other-path, next-not-key, prior-not-key}
+use Rattle.chains.specs.SideLaws.{forwardFrom, backFrom}
+use Rattle.linking.specs.Nodes.{forward-word, back-word, next-not-prior, prior-not-next, next-other-path, prior-other-path, next-not-key, prior-not-key}
 use Rattle.linking.specs.PointSteps.{PointStep}
 
 -- ---- deeds on points
 
 -- the address is a node's pointer on a path of set i
 abbrev pub NodeOf : Schema → ℕ → Address → Type 0
-NodeOf t i a = (j : ℕ) × (m : ℕ) × (c : ℕ) × ((a ≡ nextAt t i j m c) ⊎ (a ≡ priorAt t i j m c))
+NodeOf t i a = (j : ℕ) × (m : ℕ) × (c : ℕ) × ((a ≡ forwardFrom t i j m c) ⊎ (a ≡ backFrom t i j m c))
 
 -- a deed of a call on record r of set i
 abbrev pub OnPoint : Schema → List ℕ → ℕ → ℕ → Deed → Type 0
@@ -95,20 +96,20 @@ plain-apart t i n q f p a (j, m, c, inl e) d = next-not-key t i j m c n q f (p .
 plain-apart t i n q f p a (j, m, c, inr e) d = prior-not-key t i j m c n q f (p .0) (p .3) (d ∙ e)
 
 -- a node of another set's path
-next-apart : (t : Schema) (i k j m c : ℕ) → k ≢ i → (a : Address) → NodeOf t i a → nextAt t k j m c ≢ a
+next-apart : (t : Schema) (i k j m c : ℕ) → k ≢ i → (a : Address) → NodeOf t i a → forwardFrom t k j m c ≢ a
 next-apart t i k j m c n a (l, q, s, inl e) d = next-other-path t k j i l m c q s (λ h. n (h .0)) (d ∙ e)
 next-apart t i k j m c n a (l, q, s, inr e) d = next-not-prior t k j m c i l q s (d ∙ e)
 
-prior-apart : (t : Schema) (i k j m c : ℕ) → k ≢ i → (a : Address) → NodeOf t i a → priorAt t k j m c ≢ a
+prior-apart : (t : Schema) (i k j m c : ℕ) → k ≢ i → (a : Address) → NodeOf t i a → backFrom t k j m c ≢ a
 prior-apart t i k j m c n a (l, q, s, inl e) d = prior-not-next t k j m c i l q s (d ∙ e)
 prior-apart t i k j m c n a (l, q, s, inr e) d = prior-other-path t k j i l m c q s (λ h. n (h .0)) (d ∙ e)
 
 -- a node's record is the master or a record of the path's own set
-next-set : (t : Schema) (k j m c : ℕ) → (nextAt t k j m c .set ≡ pathOf (entryOf t k) j .master .0) ⊎ (nextAt t k j m c .set ≡ k)
+next-set : (t : Schema) (k j m c : ℕ) → (forwardFrom t k j m c .set ≡ pathOf (entryOf t k) j .master .0) ⊎ (forwardFrom t k j m c .set ≡ k)
 next-set t k j m zero = inl refl
 next-set t k j m (suc c) = inr refl
 
-prior-set : (t : Schema) (k j m c : ℕ) → (priorAt t k j m c .set ≡ pathOf (entryOf t k) j .master .0) ⊎ (priorAt t k j m c .set ≡ k)
+prior-set : (t : Schema) (k j m c : ℕ) → (backFrom t k j m c .set ≡ pathOf (entryOf t k) j .master .0) ⊎ (backFrom t k j m c .set ≡ k)
 prior-set t k j m zero = inl refl
 prior-set t k j m (suc c) = inr refl
 
@@ -124,9 +125,6 @@ area-same : (b c : List ℕ) (e : Entry) (r : ℕ) → Fields e → isMaster e �
     → bodyOf c e r ≡ bodyOf b e r → areaOf c e r ≡ areaOf b e r
 unfolding areaOf
 area-same b c e r f v h d = let k = keys-same b c e r f h (e .count) 0 (omega arith) in rw (v, d, k) refl
-
-pub variable-kind : (t : Schema) → SchemaOk t → (k : ℕ) → t .masters ≤ k → k < setCount t → isMaster (entryOf t k) ≡ false
-variable-kind t ok k lo hi = ne-eqb (entryOf t k .kind) 1 (λ e. omega (arith, ok .variable k lo hi .kind))
 
 -- ---- the step
 
@@ -145,16 +143,16 @@ module _ (t : Schema) (w : World t) (b : List ℕ) (rows : ℕ → ℕ → List 
 
   -- the nodes of another set's paths
   module _ (k j : ℕ) (p : IsPathOf t k j) (other : k ≢ i) (m c : ℕ) (in-m : InSet (mastersOn t (entryOf t k) j) m) (in-c : c ≤ entryOf t k .records) where
-    next-kept : getWord t (after t b ds) (nextAt t k j m c) ≡ getWord t b (nextAt t k j m c)
+    next-kept : getWord t (after t b ds) (forwardFrom t k j m c) ≡ getWord t b (forwardFrom t k j m c)
     next-kept =
-        word-missed (w .ok) b (g .sized) ds (nextAt t k j m c) v (nextAt-word t (w .ok) k j m c p in-m in-c)
-        (on-misses t b i r (nextAt t k j m c) (next-apart t i k j m c other)
+        word-missed (w .ok) b (g .sized) ds (forwardFrom t k j m c) v (forward-word t (w .ok) k j m c p in-m in-c)
+        (on-misses t b i r (forwardFrom t k j m c) (next-apart t i k j m c other)
         (λ e. ⊎-elim (λ s. let l = w .ok .path k j p .master in omega arith) (λ s. other (sym s ∙ e .0)) (next-set t k j m c)) ds on)
 
-    prior-kept : getWord t (after t b ds) (priorAt t k j m c) ≡ getWord t b (priorAt t k j m c)
+    prior-kept : getWord t (after t b ds) (backFrom t k j m c) ≡ getWord t b (backFrom t k j m c)
     prior-kept =
-        word-missed (w .ok) b (g .sized) ds (priorAt t k j m c) v (priorAt-word t (w .ok) k j m c p in-m in-c)
-        (on-misses t b i r (priorAt t k j m c) (prior-apart t i k j m c other)
+        word-missed (w .ok) b (g .sized) ds (backFrom t k j m c) v (back-word t (w .ok) k j m c p in-m in-c)
+        (on-misses t b i r (backFrom t k j m c) (prior-apart t i k j m c other)
         (λ e. ⊎-elim (λ s. let l = w .ok .path k j p .master in omega arith) (λ s. other (sym s ∙ e .0)) (prior-set t k j m c)) ds on)
 
   -- the masters
@@ -200,7 +198,7 @@ module _ (t : Schema) (w : World t) (b : List ℕ) (rows : ℕ → ℕ → List 
   -- the areas of the other records
   areas-kept : (k q : ℕ) → t .masters ≤ k → k < setCount t → InSet (entryOf t k) q → Elsewhere k q i r → areaOf (after t b ds) (entryOf t k) q ≡ areaOf b (entryOf t k) q
   areas-kept k q lo hi s d =
-      area-same b (after t b ds) (entryOf t k) q (w .fields k hi) (variable-kind t (w .ok) k lo hi)
+      area-same b (after t b ds) (entryOf t k) q (w .fields k hi) (is-variable t (w .ok) k lo hi)
       (λ j l. run-kept k q (key j) (refl, refl, refl, refl) d (hi, s, (lo, hi, l)))
       (run-kept k q body (refl, refl, refl, refl) d (hi, s, hi))
 

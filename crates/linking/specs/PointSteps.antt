@@ -18,6 +18,7 @@ use Rattle.sound.specs.Sound.{setClean}
 use Rattle.keeping.specs.Frames.{SameMasters, SameHeads, SamePoints}
 use Rattle.keeping.specs.Rows.{World, PathRows, Represents}
 use Rattle.housing.specs.RowLaws.{same-masters}
+use Rattle.linking.specs.RowFacts.{rows-same}
 use Rattle.linking.specs.FollowLaws.{path-frame}
 
 -- what a call on record r of the variable set i leaves of everything but that record and the paths of its set
@@ -29,17 +30,6 @@ pub record PointStep (t : Schema) (b c : List ℕ) (i r : ℕ) : Type 0 where
   pub points : (k j : ℕ) → IsPathOf t k j → k ≢ i → SamePoints t b c k j
   pub heads : (k j : ℕ) → IsPathOf t k j → k ≢ i → SameHeads t b c k j
   pub areas : (k q : ℕ) → t .masters ≤ k → k < setCount t → InSet (entryOf t k) q → ((k ≡ i) × (q ≡ r) → ⊥) → areaOf c (entryOf t k) q ≡ areaOf b (entryOf t k) q
-
--- rows that are the same at each key
-pub rows-same : (t : Schema) (b : List ℕ) (i j : ℕ) (rows now : List ℕ → List ℕ) → ((key : List ℕ) → now key ≡ rows key) → PathRows t b i j rows → PathRows t b i j now
-rows-same t b i j rows now e p =
-    record {
-      no-blank = p .no-blank;
-      owned = p .owned;
-      chain = λ m l. rw (e _) (p .chain m l);
-      mine = λ key. rw (e key) (p .mine key);
-      full = λ r l. rw (e _) (p .full r l);
-    }
 
 -- the state after it, once the paths of its own set are told
 pub point-step-keeps : (t : Schema) (w : World t) (b c : List ℕ) (rows now : ℕ → ℕ → List ℕ → List ℕ) (i r : ℕ) → t .masters ≤ i → i < setCount t → Represents t b rows → PointStep t b c i r

@@ -1,7 +1,7 @@
 -- One path of a set after an add or DELVD: if the fields have changed as Changed says, the path stands for the rows with another list at one
 -- key. The chain of that key's master is changed in the middle; the records of every other chain have another key, so their pointers stay.
 use Prim.Native.Nat.{ℕ, _≤_}
-use mathlib.Core.Path.{_≡_, refl, sym, _∙_, subst, fun-ext}
+use mathlib.Core.Path.{_≡_, refl, sym, _∙_}
 use mathlib.Core.Logic.{_≢_, _⊎_, inl, inr, ⊎-elim}
 use mathlib.Core.Bool.{Bool, true, false, cond}
 use mathlib.Core.List.{List, [], _∷_, _++_}
@@ -24,7 +24,8 @@ use Rattle.sound.specs.KeyLaws.{Live}
 use Rattle.keeping.specs.Rows.{nextNode, priorNode, Mine, PathRows, inserted, without}
 use Rattle.linking.specs.Changes.{Changed}
 use Rattle.linking.specs.Cuts.{without-cut, without-fresh}
-use Rattle.linking.specs.Neighbours.{OnRow, row-numbers, point-cut, spot-cut}
+use Rattle.linking.specs.Neighbours.{OnRow, point-cut, spot-cut}
+use Rattle.linking.specs.RowFacts.{row-nozero, rows-same}
 
 -- ---- rows with another list at one key
 
@@ -44,10 +45,6 @@ module _ (rows : List ℕ → List ℕ) (key new k : List ℕ) where
 
   row-else : k ≢ key → rowAt rows key new k ≡ rows k
   row-else n = rw (ne-sameBytes k key n) refl
-
--- a path stands for rows by their values
-rows-same : (t : Schema) (b : List ℕ) (i j : ℕ) (rows rows′ : List ℕ → List ℕ) → ((k : List ℕ) → rows k ≡ rows′ k) → PathRows t b i j rows → PathRows t b i j rows′
-rows-same t b i j rows rows′ e p = subst (λ rs. PathRows t b i j rs) (fun-ext e) p
 
 -- ---- the change, of the row of `key` on path j of set i, which is the chain of the master in record m; r is the record that comes or goes
 
@@ -112,7 +109,7 @@ module _ (t : Schema) (b c : List ℕ) (i j : ℕ) (rows : List ℕ → List ℕ
         (λ a n k. ch .prior-else m a (live .0) (k .0) (k .1) (λ h. n))
         ((omega arith, λ e. omega arith), all-map (λ a. Mine t b i j key a × (a ≢ r)) _ (λ a h. (h .0 .0 .0 .1, h .1)) (us ++ vs) sides)
         (rw cut at (rw keyed at (p .chain m live)))
-        (rw cut at (row-numbers t b i j rows key p))
+        (rw cut at (row-nozero t b i j rows key p))
         (ch .seg)
 
     -- the chain of another master
@@ -209,7 +206,7 @@ module _ (t : Schema) (b c : List ℕ) (i j : ℕ) (rows : List ℕ → List ℕ
           × ((r : ℕ) → inserted spot r (rows key) ≡ us ++ (r ∷ vs))
           → PathRows t c i j (λ k. cond (sameBytes k key) (inserted spot r (rows k)) (rows k))
       by (us, vs, cut, prior, next, put) =
-          rows-same t c i j (rowAt rows key (us ++ (r ∷ vs))) (λ k. cond (sameBytes k key) (inserted spot r (rows k)) (rows k)) (λ k. put-at k (sameBytes k key) refl)
+          rows-same t c i j (rowAt rows key (us ++ (r ∷ vs))) (λ k. cond (sameBytes k key) (inserted spot r (rows k)) (rows k)) (λ k. sym (put-at k (sameBytes k key) refl))
           (row-changed us [] (r ∷ []) vs p l k one nb n cut (λ a w. absurd w) (λ w. never-both (isLive b set r) w free)
           (rw cut at (all-map (Mine t b i j key) (λ a. r ≢ a) (λ a w q. never-both (isLive b set r) (rw q (w .0 .1)) free) (rows key) (p .mine key)))
           (rw (prior, next) at ch))
@@ -226,7 +223,7 @@ module _ (t : Schema) (b c : List ℕ) (i j : ℕ) (rows : List ℕ → List ℕ
       by : (us : List ℕ) × (vs : List ℕ) × (rows key ≡ us ++ (r ∷ vs)) × (priorOn b set r path ≡ lastOr 0 us) × (nextOn b set r path ≡ headOr 0 vs) × Fresh r us × Fresh r vs
           → PathRows t c i j (λ k. without r (rows k))
       by (us, vs, cut, prior, next, fu, fv) =
-          rows-same t c i j (rowAt rows key (us ++ vs)) (λ k. without r (rows k)) (λ k. taken k (key? k key))
+          rows-same t c i j (rowAt rows key (us ++ vs)) (λ k. without r (rows k)) (λ k. sym (taken k (key? k key)))
           (row-changed us (r ∷ []) [] vs p l k one (rw kr at (p .no-blank r lr)) (lr .0) cut (λ a w. ⊎-elim (λ q. q) (λ o. absurd o) w) (λ w. inl refl)
           (all-append (λ a. r ≢ a) us vs fu fv) (rw (prior, next) at ch))
         where

@@ -1,7 +1,7 @@
 -- What one row of a path is, whatever its key: its records are live, so they are records of the set; a record on it has its master, so a
 -- key that no master has has the empty row; and the row of a master is a chain, so no record stands on it twice.
 use Prim.Native.Nat.{ℕ, _≤_}
-use mathlib.Core.Path.{_≡_, refl, _∙_}
+use mathlib.Core.Path.{_≡_, refl, sym, _∙_, subst, fun-ext}
 use mathlib.Core.Logic.{_≢_, inl}
 use mathlib.Core.List.{List, [], _∷_}
 use native.Mathlib.Omega.{arith}
@@ -59,3 +59,7 @@ module _ (t : Schema) (b : List ℕ) (i j : ℕ) (rows : List ℕ → List ℕ) 
       by : (rs : List ℕ) → NoZero rs → Seg (nextNode t b i j m) (priorNode t b i j m) 0 rs 0 → rs ≡ []
       by [] h s = refl
       by (r ∷ rs) h s = absurd (omega arith)
+
+-- a path stands for rows by their values
+pub rows-same : (t : Schema) (b : List ℕ) (i j : ℕ) (rows now : List ℕ → List ℕ) → ((key : List ℕ) → now key ≡ rows key) → PathRows t b i j rows → PathRows t b i j now
+rows-same t b i j rows now e p = subst (λ rs. PathRows t b i j rs) (sym (fun-ext e)) p

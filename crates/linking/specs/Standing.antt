@@ -18,6 +18,7 @@ use Rattle.schema.specs.declared.Schema.{Schema}
 use Rattle.schema.specs.Decode.{entryOf, pathOf, setCount}
 use Rattle.schema.specs.Guarantee.{SchemaOk}
 use Rattle.records.specs.Records.{masterKey, firstOn, lastOn, keyOn, priorOn, nextOn}
+use Rattle.records.specs.KindLaws.{is-master}
 use Rattle.records.specs.Areas.{isMaster}
 use Rattle.masters.specs.declared.Found.the-variants.{Missing}
 use Rattle.masters.specs.Find.{isAt, recordFound}
@@ -148,10 +149,6 @@ module _ (t : Schema) (b : List ℕ) where
   sound-holds f g =
       and-eq-true-iff (allBelow (isSealed b) (t .blocks)) (allBelow (λ n. setSound t b (entryOf t n)) (setCount t)) .1
       (allBelow-all (isSealed b) (t .blocks) f, allBelow-all (λ n. setSound t b (entryOf t n)) (setCount t) g)
-
--- the masters' sets come first
-is-master : (t : Schema) → SchemaOk t → (n : ℕ) → n < t .masters → isMaster (entryOf t n) ≡ true
-is-master t ok n l = rw (ok .master n l .kind) refl
 
 is-variable : (t : Schema) → SchemaOk t → (n : ℕ) → t .masters ≤ n → n < setCount t → isMaster (entryOf t n) ≡ false
 is-variable t ok n m l = rw (ok .variable n m l .kind) refl

@@ -27,7 +27,8 @@ use Rattle.keeping.specs.SettleLaws.{storable}
 use Rattle.linking.specs.PointSteps.{PointStep, point-step-keeps}
 use Rattle.linking.specs.FollowLaws.{path-frame}
 use Rattle.linking.specs.AreaMade.{area-made}
-use Rattle.linking.specs.PointDeeds.{variable-kind, deeds-step}
+use Rattle.linking.specs.PointDeeds.{deeds-step}
+use Rattle.records.specs.KindLaws.{is-variable}
 
 -- the deed, and the data base after it
 abbrev fills : Schema → ℕ → ℕ → List ℕ → List Deed
@@ -90,6 +91,6 @@ module _ (t : Schema) (w : World t) (b : List ℕ) (rows : ℕ → ℕ → List 
 
   pub write-area : areaOf (committed b (storeRun (entryOf t i) r (entryOf t i .body) (areaBody (entryOf t i) area) ∷ [])) (entryOf t i) r ≡ area
   write-area =
-      area-made (written t b i r area) (entryOf t i) r area (w .fields i (ok .set .1)) (variable-kind t (w .ok) i (ok .set .0) (ok .set .1)) (ok .area-length)
+      area-made (written t b i r area) (entryOf t i) r area (w .fields i (ok .set .1)) (is-variable t (w .ok) i (ok .set .0) (ok .set .1)) (ok .area-length)
       (λ k l. run-same i r (key k) refl (ok .set .1, ok .live .0, (ok .set .0, ok .set .1, l)) ∙ sym (ok .same-keys k l))
       (run-filled (w .ok) b (g .sized) [] i r (areaBody (entryOf t i) area) [] valid tt)

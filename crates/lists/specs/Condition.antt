@@ -5,7 +5,7 @@
 use Prim.Native.Nat.{ℕ}
 use mathlib.Core.Path.{_≡_}
 use mathlib.Core.Logic.{_⊎_}
-use mathlib.Core.List.{List, [], _∷_, reverse}
+use mathlib.Core.List.{List, [], reverse}
 use Rattle.octets.specs.Text.{text}
 use Rattle.terms.specs.declared.Status.the-variants.{Done}
 use Rattle.schema.specs.Decode.{schemaOf}

@@ -1,7 +1,7 @@
 -- Condition 3, first page: plain lists. For each variable set, path and key a list of points, each with its record number and its area.
 -- A step of them looks only at the call, its status and the reference that it returned. How a store keeps its records does not come in.
 use Prim.Native.Nat.{ℕ}
-use mathlib.Core.Bool.{Bool, cond, _&&_}
+use mathlib.Core.Bool.{cond, _&&_}
 use mathlib.Core.List.{List, [], _∷_, _++_}
 use lib.Dec.{eqb}
 use Rattle.octets.specs.Octets.{sameBytes}
@@ -13,7 +13,7 @@ use Rattle.terms.specs.Operation.{operationOf}
 use Rattle.schema.specs.declared.Entry.{Entry}
 use Rattle.schema.specs.Decode.{entryOf, schemaOf}
 use Rattle.records.specs.Areas.{areaKeyOn}
-use Rattle.calls.specs.Call.{Call, Outcome, callOf}
+use Rattle.calls.specs.Call.{Call}
 use Rattle.calls.specs.Scene.{setNamed, pathNamed}
 
 -- a point of a chain: the number of its record, and its area

@@ -1,7 +1,7 @@
 -- The laws of `Below`: the turns of loops that count up, and what the answers say.
 use mathlib.Core.Path.{_≡_, refl, sym, ap, _∙_}
 use mathlib.Core.Bool.{Bool, true, false, cond, _&&_, and-eq-true-iff}
-use mathlib.Core.List.{List, [], _∷_}
+use mathlib.Core.List.{List, [], _∷_, _++_}
 use mathlib.Core.Logic.{_⊎_, inl, inr}
 use Prim.Native.Nat.{ℕ, zero, suc, _+_, _≤_, _<_}
 use native.Mathlib.Omega.{arith}
@@ -11,7 +11,7 @@ use lib.Dec.{eqb}
 use lib.ListN.{length, getD, take, set, length-append, List·getD-append}
 use lib.Seq.{take-suc-set, take-all, getD-at}
 use borrow.Author.Tests.{eqb-true, eqb-false}
-use Rattle.octets.specs.Below.{allBelow, sumBelow, countBelow, lowestFrom, upto}
+use Rattle.octets.specs.Below.{allBelow, sumBelow, countBelow, lowestFrom, upto, concatBelow}
 use Rattle.octets.specs.RunLaws.{refuted}
 
 -- no test is both
@@ -196,3 +196,19 @@ module _ {ℓ} {A : Type ℓ} (f : ℕ → A) where
 pub upto-same {ℓ} : {A : Type ℓ} (f g : ℕ → A) (n : ℕ) → ((i : ℕ) → i < n → f i ≡ g i) → upto f n ≡ upto g n
 upto-same f g zero h = refl
 upto-same f g (suc n) h = rw (upto-same f g n (λ i l. h i (omega arith)), h n (omega arith)) refl
+
+-- ---- lists one behind the other
+
+module _ {ℓ} {A : Type ℓ} where
+  pub concatBelow-turn : (f : ℕ → List A) (n : ℕ) → concatBelow f (n + 1) ≡ concatBelow f n ++ f n
+  unfolding concatBelow
+  concatBelow-turn f n = rw add-one refl
+
+  pub concatBelow-none : (f : ℕ → List A) → concatBelow f 0 ≡ []
+  unfolding concatBelow
+  concatBelow-none f = refl
+
+  pub concatBelow-same : (f g : ℕ → List A) (n : ℕ) → ((k : ℕ) → k < n → f k ≡ g k) → concatBelow f n ≡ concatBelow g n
+  unfolding concatBelow
+  concatBelow-same f g zero h = refl
+  concatBelow-same f g (suc n) h = rw (concatBelow-same f g n (λ k l. h k (omega arith)), h n (omega arith)) refl

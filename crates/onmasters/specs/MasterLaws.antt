@@ -18,6 +18,7 @@ use Rattle.schema.specs.declared.Schema.{Schema}
 use Rattle.schema.specs.Decode.{entryOf, setCount}
 use Rattle.schema.specs.Guarantee.{SchemaOk}
 use Rattle.schema.specs.GuaranteeLaws.{lies}
+use Rattle.records.specs.KindLaws.{among-masters}
 use Rattle.records.specs.Areas.{isMaster}
 use Rattle.masters.specs.declared.Found.{Found}
 use Rattle.masters.specs.declared.Found.the-variants.{At, Missing, Damaged}
@@ -31,7 +32,7 @@ use Rattle.calls.specs.Answer.{answered, placeTests, formTests, seekTests, rest
 use Rattle.forms.specs.Form.{formStatus}
 use Rattle.forms.specs.FormLaws.{form-tests, form-link, form-on}
 use Rattle.onmasters.specs.declared.Placed.{Placed}
-use Rattle.ends.specs.FormFacts.{key-length, area-length, among-masters}
+use Rattle.ends.specs.FormFacts.{key-length, area-length}
 use Rattle.ends.specs.Asks.{Laid, Asks, placedOutcome}
 use Rattle.ends.specs.Ends.{Ends, not-done, refused-ends}
 use Rattle.onmasters.specs.Masters.{MasterCall, NamedCall, MasterIn, OnSet, Places}
@@ -99,7 +100,7 @@ module _ (t : Schema) (o : Operation) (n : List ℕ) (r : ℕ) (key area : List 
         known = λ d.
             let f : formStatus o (entryOf t i) 0 0 (entryOf t i .key) r key area ≡ Done = sym e ∙ d in
             record {
-              among = rw num (among-masters t i ok (rw (← count) l) m);
+              among = rw num (among-masters t ok i (rw (← count) l) m);
               here = rw (ent, num) refl;
               key = rw ent (key-length o (entryOf t i) 0 0 (entryOf t i .key) r key area f (k .of-a-key));
               area = rw ent (area-length o (entryOf t i) 0 0 (entryOf t i .key) r key area f);

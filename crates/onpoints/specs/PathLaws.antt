@@ -7,7 +7,7 @@ use mathlib.Core.Logic.{_⊎_, inl, inr}
 use native.Mathlib.Omega.{arith}
 use lib.Dec.{eqb, leb, ltb}
 use lib.ListN.{length}
-use borrow.Author.Tests.{eqb-true, ne-eqb, lt-ltb, le-ltb, ltb-true, ltb-false, not-false}
+use borrow.Author.Tests.{eqb-true, ne-eqb, lt-ltb, le-ltb, ltb-true, not-false}
 use Rattle.octets.specs.Octets.{allBlank}
 use Rattle.octets.specs.RunLaws.{sameBytes-eq}
 use Rattle.octets.specs.BelowLaws.{never-both}
@@ -25,6 +25,7 @@ use Rattle.schema.specs.declared.Schema.{Schema}
 use Rattle.schema.specs.Decode.{entryOf, pathOf, setCount}
 use Rattle.schema.specs.Place.{InSet, inSet}
 use Rattle.schema.specs.Guarantee.{SchemaOk}
+use Rattle.records.specs.KindLaws.{behind-masters}
 use Rattle.records.specs.Areas.{isMaster, areaLength, areaKeyOn}
 use Rattle.masters.specs.FindLaws.{inSet-true}
 use Rattle.chains.specs.Points.{mastersOn}
@@ -147,16 +148,6 @@ module _ (t : Schema) (c : Call) (o : Operation) (k : PointCall o) (q : operatio
 
 -- ---- the set and the path that a call speaks of
 
--- a set of points comes behind those of masters
-pub behind-masters : (t : Schema) (i : ℕ) → SchemaOk t → isMaster (entryOf t i) ≡ false → t .masters ≤ i
-behind-masters t i ok v = go (ltb i (t .masters)) refl
-  where
-    go : (b : Bool) → ltb i (t .masters) ≡ b → t .masters ≤ i
-    go false h = ltb-false i (t .masters) h
-    go true h =
-        let one = ok .master i (ltb-true i (t .masters) h) .kind in
-        absurd (never-both (isMaster (entryOf t i)) (rw one refl) v)
-
 -- the three tests in their order, and the forms behind them
 gather : (a m s : Bool) (u : Status) → firstOf (cond a Fntf (cond m Kind (cond s refusals.Path Done))) u ≡ cond a Fntf (cond m Kind (cond s refusals.Path u))
 gather true m s u = refl
@@ -221,7 +212,7 @@ module _ (t : Schema) (o : Operation) (n w : List ℕ) (r : ℕ) (key area : Lis
           let f = passed (not (ltb j (u .count))) refusals.Path _ (omega arith) d in
           rw (g .number, g .masters, g .path, g .entry, g .named)
           (record {
-            behind = behind-masters t i ok v;
+            behind = behind-masters t ok i v;
             among = rw (← count) lt;
             here = refl;
             on = ltb-true j (u .count) (not-false _ (f .0));

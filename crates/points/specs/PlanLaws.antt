@@ -1,11 +1,10 @@
 -- A plan that grows by the words of one path after the other.
-use Prim.Native.Nat.{ℕ, zero, suc, _+_, _*_, _≤_, _<_}
+use Prim.Native.Nat.{ℕ, _+_, _*_, _≤_, _<_}
 use mathlib.Core.Path.{_≡_, refl, sym, ap, _∙_}
 use mathlib.Core.List.{List, [], _∷_, _++_, append-assoc, append-nil}
 use native.Mathlib.Omega.{arith}
-use native.Mathlib.Numerals.{add-one}
 use Rattle.octets.specs.Below.{concatBelow}
-use Rattle.octets.specs.BelowLaws.{getD-upto}
+use Rattle.octets.specs.BelowLaws.{getD-upto, concatBelow-turn, concatBelow-same}
 use lib.ListN.{getD, take, replicate, getD-replicate}
 use lib.Seq.{getD-take}
 use Rattle.terms.specs.declared.RecordNo.{RecordNo}
@@ -17,22 +16,6 @@ use Rattle.plans.specs.declared.Head.{Head}
 use Rattle.plans.specs.declared.Plan.{Plan}
 use Rattle.plans.specs.Stores.{wordsOf}
 use Rattle.points.specs.Paths.{both, bothOn, wordsOn, wordsBelow}
-
--- ---- lists made path by path
-
-module _ {ℓ} {A : Type ℓ} where
-  pub concatBelow-turn : (f : ℕ → List A) (n : ℕ) → concatBelow f (n + 1) ≡ concatBelow f n ++ f n
-  unfolding concatBelow
-  concatBelow-turn f n = rw add-one refl
-
-  pub concatBelow-none : (f : ℕ → List A) → concatBelow f 0 ≡ []
-  unfolding concatBelow
-  concatBelow-none f = refl
-
-  pub concatBelow-same : (f g : ℕ → List A) (n : ℕ) → ((k : ℕ) → k < n → f k ≡ g k) → concatBelow f n ≡ concatBelow g n
-  unfolding concatBelow
-  concatBelow-same f g zero h = refl
-  concatBelow-same f g (suc n) h = rw (concatBelow-same f g n (λ k l. h k (omega arith)), h n (omega arith)) refl
 
 -- ---- a longer plan
 

@@ -10,7 +10,7 @@ use lib.Dec.{eqb}
 use lib.ListN.{length, getD, take}
 use Rattle.octets.specs.Octets.{wordAt, wordBytes}
 use Rattle.octets.specs.Below.{allBelow, upto, concatBelow}
-use Rattle.octets.specs.BelowLaws.{allBelow-same}
+use Rattle.octets.specs.BelowLaws.{allBelow-same, concatBelow-same}
 use Rattle.terms.specs.declared.RecordNo.{RecordNo}
 use Rattle.terms.specs.declared.Status.{Status}
 use Rattle.terms.specs.declared.Status.the-variants.{Done}
@@ -36,7 +36,6 @@ use Rattle.points.specs.Rest.{isDone, otherMasters}
 use Rattle.points.specs.Paths.{firstOf, keyAt, unevenAt, cleanAt, damaged, sideWords, wordsOn, wordsBelow}
 use Rattle.points.specs.VariableIn.{VariableIn, EndsIn, LinkIn}
 use Rattle.points.specs.PathLaws.{Held, others-held, filled-at}
-use Rattle.points.specs.PlanLaws.{concatBelow-same}
 
 -- ---- stores made path by path
 

@@ -9,3 +9,4 @@ pub mod FieldsByAddress
 pub mod Memory
 pub mod FillerLaws
 pub mod RecordLaws
+pub mod KindLaws

@@ -6,15 +6,14 @@ use mathlib.Core.Path.{_≡_, refl, sym, ap, _∙_}
 use mathlib.Core.Bool.{Bool, true, false, cond, _&&_, and-eq-true-iff}
 use mathlib.Core.List.{List}
 use native.Mathlib.Omega.{arith}
-use lib.Dec.{ltb}
-use borrow.Author.Tests.{eq-eqb, ltb-true, ltb-false}
 use Rattle.octets.specs.Below.{allBelow}
-use Rattle.octets.specs.BelowLaws.{never-both, allBelow-at, allBelow-same}
+use Rattle.octets.specs.BelowLaws.{allBelow-at, allBelow-same}
 use Rattle.octets.specs.RunLaws.{tests-eq}
 use Rattle.schema.specs.declared.Schema.{Schema}
 use Rattle.schema.specs.Decode.{entryOf, pathOf, setCount}
 use Rattle.schema.specs.Guarantee.{SchemaOk}
 use Rattle.records.specs.Areas.{isMaster}
+use Rattle.records.specs.KindLaws.{is-master, behind-masters}
 use Rattle.sound.specs.Sound.{checksTrue, setClean, masterSetSound, variableSetSound, variablePathSound, setSound, sound}
 use Rattle.sound.specs.Linear.{mastersInPlace, pathInPlace, pathsInPlace, setInPlace, inPlace}
 use Rattle.sound.specs.KeyLaws.{masterSet-says}
@@ -26,17 +25,6 @@ master-part : (c k m v : Bool) → k ≡ true → (c && cond k m v) ≡ true →
 master-part c k m v q h = and-eq-true-iff c m .0 (rw q at h) .1
 
 module _ (t : Schema) (b : List ℕ) (ok : SchemaOk t) where
-  -- the masters' sets are the first entries
-  is-master : (i : ℕ) → i < t .masters → isMaster (entryOf t i) ≡ true
-  is-master i l = eq-eqb _ _ (ok .master i l .kind)
-
-  behind-masters : (i : ℕ) → isMaster (entryOf t i) ≡ false → t .masters ≤ i
-  behind-masters i h = by (ltb i (t .masters)) refl
-    where
-      by : (s : Bool) → ltb i (t .masters) ≡ s → t .masters ≤ i
-      by true s = absurd (never-both _ (is-master i (ltb-true i (t .masters) s)) h)
-      by false s = ltb-false i (t .masters) s
-
   -- every set of masters is sound
   abbrev MastersSound : Type 0
   MastersSound = (i : ℕ) → i < t .masters → masterSetSound b (entryOf t i) ≡ true
@@ -59,7 +47,7 @@ module _ (t : Schema) (b : List ℕ) (ok : SchemaOk t) where
       by : (k : Bool) → isMaster (entryOf t i) ≡ k
           → cond k (mastersInPlace b (entryOf t i)) (pathsInPlace t b (entryOf t i)) ≡ cond k (masterSetSound b (entryOf t i)) (variableSetSound t b (entryOf t i))
       by true k = masters-same i l
-      by false k = paths-same ms i l (behind-masters i k)
+      by false k = paths-same ms i l (behind-masters t ok i k)
 
   -- and either judgement has the masters sound
   abbrev allInPlace : Bool
@@ -72,13 +60,13 @@ module _ (t : Schema) (b : List ℕ) (ok : SchemaOk t) where
   unfolding setInPlace
   masters-in-place h i l =
       sym (masters-same i (omega arith))
-      ∙ master-part (setClean b (entryOf t i)) (isMaster (entryOf t i)) (mastersInPlace b (entryOf t i)) (pathsInPlace t b (entryOf t i)) (is-master i l)
+      ∙ master-part (setClean b (entryOf t i)) (isMaster (entryOf t i)) (mastersInPlace b (entryOf t i)) (pathsInPlace t b (entryOf t i)) (is-master t ok i l)
       (allBelow-at (λ i. setInPlace t b (entryOf t i)) (setCount t) i h (omega arith))
 
   masters-sound : allSound ≡ true → MastersSound
   unfolding setSound
   masters-sound h i l =
-      master-part (setClean b (entryOf t i)) (isMaster (entryOf t i)) (masterSetSound b (entryOf t i)) (variableSetSound t b (entryOf t i)) (is-master i l)
+      master-part (setClean b (entryOf t i)) (isMaster (entryOf t i)) (masterSetSound b (entryOf t i)) (variableSetSound t b (entryOf t i)) (is-master t ok i l)
       (allBelow-at (λ i. setSound t b (entryOf t i)) (setCount t) i h (omega arith))
 
   all-same : MastersSound → allInPlace ≡ allSound

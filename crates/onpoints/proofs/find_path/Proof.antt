@@ -2,7 +2,8 @@ use mathlib.Core.Path.{_≡_, ap, _∙_}
 use native.Mathlib.Omega.{arith}
 use borrow.Author.Tests.{eq-eqb, ne-eqb}
 use Rattle.schema.specs.Decode.{entryOf}
-use Rattle.onpoints.specs.PathLaws.{set-missing, set-of-masters, set-of-points, behind-masters}
+use Rattle.onpoints.specs.PathLaws.{set-missing, set-of-masters, set-of-points}
+use Rattle.records.specs.KindLaws.{behind-masters}
 use borrow.Author.Needs.{needs}
 use Rattle.onpoints.proofs.find_path.Statement.{statement}
 use Rattle.onpoints.proofs.find_path.Tie as tie
@@ -56,7 +57,7 @@ on-path-requires c κs =
       s .pre .0,
       (
         (
-          omega (arith, numbered (c .before .before .before), behind-masters (s .args .t1) (c .before .before .before .before .before .before .set-named .result) (s .pre .0 .ok) (rw (← entered (c .before)) (ne-eqb _ 1 (c .if2 .left)))),
+          omega (arith, numbered (c .before .before .before), behind-masters (s .args .t1) (s .pre .0 .ok) (c .before .before .before .before .before .before .set-named .result) (rw (← entered (c .before)) (ne-eqb _ 1 (c .if2 .left)))),
           omega (arith, numbered (c .before .before .before), c .before .before .before .if1 .left, c .before .before .before .before .sets .ensures),
         ),
         c .before .before .entry-of .ensures,

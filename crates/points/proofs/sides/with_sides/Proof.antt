@@ -4,7 +4,8 @@ use mathlib.Core.Path.{_≡_, refl}
 use native.Mathlib.Omega.{arith}
 use borrow.Author.Needs.{needs}
 use Rattle.points.specs.Paths.{wordsOn, wordsBelow}
-use Rattle.points.specs.PlanLaws.{Longer, longer-none, longer-turn, concatBelow-none}
+use Rattle.octets.specs.BelowLaws.{concatBelow-none}
+use Rattle.points.specs.PlanLaws.{Longer, longer-none, longer-turn}
 use Rattle.points.proofs.sides.with_sides.Statement.{statement}
 use Rattle.points.proofs.sides.with_sides.Tie as tie
 

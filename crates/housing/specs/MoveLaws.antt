@@ -1,0 +1,135 @@
+-- The middle of one list of linked records becomes another: next of the record before it, prior of the record behind it and the pointers
+-- of the new middle are what the new list says, all others are as they were. Each record is read with its two neighbours, so that a list
+-- is linked exactly if both its parts are. A new master, a move and a removal are this one change.
+use Prim.Native.Nat.{ℕ, _≤_}
+use mathlib.Core.Path.{_≡_, refl, sym, _∙_}
+use mathlib.Core.Logic.{_≢_, _⊎_, inl, inr}
+use mathlib.Core.List.{List, [], _∷_, _++_, append-nil}
+use native.Mathlib.Omega.{arith}
+use Rattle.chains.specs.Members.{In, all-in, in-all, NoDup, in-left, in-right, in-cases, not-fresh, all-left, all-right, nodup-ends}
+use Rattle.chains.specs.Segments.{NoZero, lastOr, headOr, all-last, all-head}
+use Rattle.sound.specs.SoundLaws.{Linked}
+
+-- ---- membership round a middle
+
+-- what is not of the middle is in the list with any other middle
+pub in-other : (r : ℕ) (us ms ms′ vs : List ℕ) → (In r ms → ⊥) → In r (us ++ (ms ++ vs)) → In r (us ++ (ms′ ++ vs))
+in-other r us ms ms′ vs n m = by (in-cases r us (ms ++ vs) m)
+  where
+    later : In r ms ⊎ In r vs → In r (us ++ (ms′ ++ vs))
+    later (inl k) = absurd (n k)
+    later (inr k) = in-right r us (ms′ ++ vs) (in-right r ms′ vs k)
+
+    by : In r us ⊎ In r (ms ++ vs) → In r (us ++ (ms′ ++ vs))
+    by (inl k) = in-left r us (ms′ ++ vs) k
+    by (inr k) = later (in-cases r ms vs k)
+
+-- with no element twice, the middle has none of what stands round it
+pub middle-apart : (r : ℕ) (us ms vs : List ℕ) → NoDup (us ++ (ms ++ vs)) → In r (us ++ vs) → In r ms → ⊥
+middle-apart r [] [] vs d m k = k
+middle-apart r [] (x ∷ ms) vs d m (inl e) = not-fresh x (ms ++ vs) (in-right x ms vs (rw e at m)) (d .0)
+middle-apart r [] (x ∷ ms) vs d m (inr k) = middle-apart r [] ms vs (d .1) m k
+middle-apart r (u ∷ us) ms vs d (inl e) k = not-fresh u (us ++ (ms ++ vs)) (in-right u us (ms ++ vs) (in-left u ms vs (rw e at k))) (d .0)
+middle-apart r (u ∷ us) ms vs d (inr m) k = middle-apart r us ms vs (d .1) m k
+
+-- the last and the first of a list are 0 or in it
+pub last-in : (us : List ℕ) → (lastOr 0 us ≡ 0) ⊎ In (lastOr 0 us) us
+last-in us = all-last (λ x. (x ≡ 0) ⊎ In x us) 0 us (inl refl) (in-all (λ x. (x ≡ 0) ⊎ In x us) us (λ x m. inr m))
+
+pub head-in : (vs : List ℕ) → (headOr 0 vs ≡ 0) ⊎ In (headOr 0 vs) vs
+head-in vs = all-head (λ x. (x ≡ 0) ⊎ In x vs) 0 vs (inl refl) (in-all (λ x. (x ≡ 0) ⊎ In x vs) vs (λ x m. inr m))
+
+-- so they are none of the records of a list that shares none with it
+pub not-node : (a x : ℕ) (xs ys : List ℕ) → NoZero xs → ((r : ℕ) → In r xs → In r ys → ⊥) → (x ≡ 0) ⊎ In x ys → In a xs → a ≢ x
+not-node a x xs ys z d (inl q) m e = omega (arith, all-in (λ x. 1 ≤ x) a xs z m)
+not-node a x xs ys z d (inr k) m e = d a m (rw e k)
+
+-- ---- each record with its neighbours
+
+-- prior of each of xs is the one before it, next the one behind it; p stands before the first and q behind the last
+abbrev pub Chained : (ℕ → ℕ) → (ℕ → ℕ) → ℕ → List ℕ → ℕ → Type 0
+Chained nx pv p [] q = Unit {0}
+Chained nx pv p (x ∷ xs) q = (pv x ≡ p) × (nx x ≡ headOr q xs) × Chained nx pv x xs q
+
+head-append : (q : ℕ) (us vs : List ℕ) → headOr q (us ++ vs) ≡ headOr (headOr q vs) us
+head-append q [] vs = refl
+head-append q (u ∷ us) vs = refl
+
+module _ (nx pv : ℕ → ℕ) where
+  pub linked-chained : (p head : ℕ) (rs : List ℕ) → Linked nx pv p head rs → (head ≡ headOr 0 rs) × Chained nx pv p rs 0
+  linked-chained p head [] h = (h, tt)
+  linked-chained p head (r ∷ rs) h = let t = linked-chained r (nx r) rs (h .2) in (h .0, (h .1, t .0, t .1))
+
+  chained-linked : (p head : ℕ) (rs : List ℕ) → head ≡ headOr 0 rs → Chained nx pv p rs 0 → Linked nx pv p head rs
+  chained-linked p head [] e c = e
+  chained-linked p head (r ∷ rs) e c = (e, c .0, chained-linked r (nx r) rs (c .1) (c .2))
+
+  -- cut in two, and joined
+  chained-left : (p : ℕ) (us vs : List ℕ) (q : ℕ) → Chained nx pv p (us ++ vs) q → Chained nx pv p us (headOr q vs)
+  chained-left p [] vs q c = tt
+  chained-left p (u ∷ us) vs q c = (c .0, c .1 ∙ head-append q us vs, chained-left u us vs q (c .2))
+
+  chained-right : (p : ℕ) (us vs : List ℕ) (q : ℕ) → Chained nx pv p (us ++ vs) q → Chained nx pv (lastOr p us) vs q
+  chained-right p [] vs q c = c
+  chained-right p (u ∷ us) vs q c = chained-right u us vs q (c .2)
+
+  chained-join : (p : ℕ) (us vs : List ℕ) (q : ℕ) → Chained nx pv p us (headOr q vs) → Chained nx pv (lastOr p us) vs q → Chained nx pv p (us ++ vs) q
+  chained-join p [] vs q c d = d
+  chained-join p (u ∷ us) vs q c d = (c .0, c .1 ∙ sym (head-append q us vs), chained-join u us vs q (c .2) d)
+
+-- ---- changes
+
+module _ (nx pv nx′ pv′ : ℕ → ℕ) where
+  -- pointers as they were
+  chained-frame : (p : ℕ) (xs : List ℕ) (q : ℕ) → ((a : ℕ) → In a xs → (nx′ a ≡ nx a) × (pv′ a ≡ pv a)) → Chained nx pv p xs q → Chained nx′ pv′ p xs q
+  chained-frame p [] q k c = tt
+  chained-frame p (x ∷ xs) q k c = let t = k x (inl refl) in (t .1 ∙ c .0, t .0 ∙ c .1, chained-frame x xs q (λ a m. k a (inr m)) (c .2))
+
+  pub linked-frame : (p head : ℕ) (rs : List ℕ) → ((a : ℕ) → In a rs → (nx′ a ≡ nx a) × (pv′ a ≡ pv a)) → Linked nx pv p head rs → Linked nx′ pv′ p head rs
+  linked-frame p head rs k h =
+      let t = linked-chained nx pv p head rs h in
+      chained-linked nx′ pv′ p head rs (t .0) (chained-frame p rs 0 k (t .1))
+
+  -- another one behind the last, l
+  new-end : (p : ℕ) (us : List ℕ) (l q q′ : ℕ) → l ≡ lastOr p us → NoDup us → NoZero us → ((a : ℕ) → In a us → a ≢ l → nx′ a ≡ nx a)
+      → ((a : ℕ) → In a us → pv′ a ≡ pv a) → (1 ≤ l → nx′ l ≡ q′) → Chained nx pv p us q → Chained nx′ pv′ p us q′
+  new-end p [] l q q′ e d z kn kp w c = tt
+  new-end p (u ∷ []) l q q′ e d z kn kp w c = (kp u (inl refl) ∙ c .0, rw (← e) (w (omega arith)), tt)
+  new-end p (u ∷ x ∷ xs) l q q′ e d z kn kp w c =
+      let f : u ≢ l = rw e (all-last (λ y. u ≢ y) x xs (d .0 .0) (d .0 .1)) in (
+        kp u (inl refl) ∙ c .0,
+        kn u (inl refl) f ∙ c .1,
+        new-end u (x ∷ xs) l q q′ e (d .1) (z .1) (λ a m. kn a (inr m)) (λ a m. kp a (inr m)) w (c .2),
+      )
+
+  -- another one before the first, n
+  new-begin : (p p′ : ℕ) (vs : List ℕ) (q n : ℕ) → n ≡ headOr 0 vs → NoDup vs → NoZero vs → ((a : ℕ) → In a vs → nx′ a ≡ nx a)
+      → ((a : ℕ) → In a vs → a ≢ n → pv′ a ≡ pv a) → (1 ≤ n → pv′ n ≡ p′) → Chained nx pv p vs q → Chained nx′ pv′ p′ vs q
+  new-begin p p′ [] q n e d z kn kp w c = tt
+  new-begin p p′ (v ∷ vs) q n e d z kn kp w c = (
+    rw (← e) (w (omega arith)),
+    kn v (inl refl) ∙ c .1,
+    chained-frame v vs q (λ a m. (kn a (inr m), kp a (inr m) (λ t. not-fresh v vs (rw (t ∙ e) at m) (d .0)))) (c .2),
+  )
+
+  -- between l and n the middle ms becomes ms′
+  pub linked-change : (us ms ms′ vs : List ℕ) (l n : ℕ) → l ≡ lastOr 0 us → n ≡ headOr 0 vs → NoDup (us ++ (ms ++ vs)) → NoZero (us ++ (ms ++ vs))
+      → ((a : ℕ) → In a (us ++ vs) → a ≢ l → nx′ a ≡ nx a) → ((a : ℕ) → In a (us ++ vs) → a ≢ n → pv′ a ≡ pv a)
+      → Chained nx′ pv′ l ms′ n → (1 ≤ l → nx′ l ≡ headOr n ms′) → (1 ≤ n → pv′ n ≡ lastOr l ms′)
+      → Linked nx pv 0 (headOr 0 (us ++ (ms ++ vs))) (us ++ (ms ++ vs)) → Linked nx′ pv′ 0 (headOr 0 (us ++ (ms′ ++ vs))) (us ++ (ms′ ++ vs))
+  linked-change us ms ms′ vs l n el en d z kn kp c wl wn h =
+      let t = linked-chained nx pv 0 (headOr 0 (us ++ (ms ++ vs))) (us ++ (ms ++ vs)) h .1 in
+      let right = nodup-ends [] ms vs (nodup-ends [] us (ms ++ vs) d) in
+      let left = rw append-nil at (nodup-ends us (ms ++ vs) [] (rw append-nil d)) in
+      let zl = all-left (λ x. 1 ≤ x) us (ms ++ vs) z in
+      let zr = all-right (λ x. 1 ≤ x) ms vs (all-right (λ x. 1 ≤ x) us (ms ++ vs) z) in
+      let two : (r : ℕ) → In r us → In r vs → ⊥ = λ r m k. middle-apart r [] us (ms ++ vs) d (in-right r ms vs k) m in
+      let first : 1 ≤ l → nx′ l ≡ headOr 0 (ms′ ++ vs) = λ o. rw (head-append 0 ms′ vs, ← en) (wl o) in
+      let rest = chained-right nx pv (lastOr 0 us) ms vs 0 (chained-right nx pv 0 us (ms ++ vs) 0 t) in
+      let before = new-end 0 us l (headOr 0 (ms ++ vs)) (headOr 0 (ms′ ++ vs)) el left zl
+      (λ a m. kn a (in-left a us vs m)) (λ a m. kp a (in-left a us vs m) (not-node a n us vs zl two (rw en (head-in vs)) m)) first (chained-left nx pv 0 us (ms ++ vs) 0 t) in
+      let after = new-begin (lastOr (lastOr 0 us) ms) (lastOr l ms′) vs 0 n en right zr
+      (λ a m. kn a (in-right a us vs m) (not-node a l vs us zr (λ r i k. two r k i) (rw el (last-in us)) m)) (λ a m. kp a (in-right a us vs m)) wn rest in
+      chained-linked nx′ pv′ 0 (headOr 0 (us ++ (ms′ ++ vs))) (us ++ (ms′ ++ vs)) refl
+      (chained-join nx′ pv′ 0 us (ms′ ++ vs) 0 before
+      (chained-join nx′ pv′ (lastOr 0 us) ms′ vs 0 (rw (← el, ← en) c) (rw (← el) after)))

@@ -1,0 +1,196 @@
+-- Condition 3, proved: `Condition3 outcome`. A data base that a sequence starts with stands for rows (sign-on accepts no other, FORMT leaves
+-- none but empty ones); each call keeps that and changes the rows as the plain step changes the lists; and readings show the rows.
+use Prim.Native.Nat.{ℕ, _*_}
+use mathlib.Core.Path.{_≡_, refl, sym, _∙_}
+use mathlib.Core.Logic.{_⊎_, inl, inr, ⊎-elim}
+use mathlib.Core.Bool.{true}
+use mathlib.Core.List.{List, [], _∷_, reverse, reverseAux}
+use native.Mathlib.Omega.{arith}
+use lib.ListN.{length}
+use borrow.Author.Tests.{eqb-true, eq-eqb, not-false}
+use Rattle.octets.specs.Text.{text}
+use Rattle.octets.specs.Octets.{sameBytes}
+use Rattle.terms.specs.declared.Status.the-variants.{Done}
+use Rattle.terms.specs.declared.Operation.the-variants.{Formt, Sinon}
+use Rattle.terms.specs.Operation.{operationOf}
+use Rattle.schema.specs.declared.Entry.{Entry}
+use Rattle.schema.specs.Guarantee.{IsPathOf}
+use Rattle.schema.specs.Layout.{keepsRules}
+use Rattle.schema.specs.Decode.{entryOf, schemaOf}
+use Rattle.schema.specs.GuaranteeLaws.{guaranteed}
+use Rattle.areas.specs.AreaLaws.{fields-of}
+use Rattle.sound.specs.Sound.{sound}
+use Rattle.keeping.specs.Rows.{World}
+use Rattle.keeping.specs.FreshLaws.{format-represents}
+use Rattle.linking.specs.Standing.{rowsIn, sound-represents, represents-sound}
+use Rattle.calls.specs.Call.{Call, callOf, oneOf}
+use Rattle.calls.specs.Scene.{sceneOf, sceneUnder}
+use Rattle.calls.specs.LadderLaws.{others-pass}
+use Rattle.calls.specs.Outcome.{done, outcome}
+use Rattle.calls.specs.Reply.{storesOf, baseAfter}
+use Rattle.plans.specs.Plan.{blocksSealed, formatted}
+use Rattle.lists.specs.Calm.{asked}
+use Rattle.lists.specs.Outcomes.{Rungs, climbed, outcome-done, done-is, done-rungs}
+use Rattle.lists.specs.Plain.{Lists}
+use Rattle.lists.specs.Readings.{Request, under, run, plain, NoDamage, Place, setAt, entryAt, pathAt, IsPlace, Exists, readv, link}
+use Rattle.lists.specs.Condition.{SignsOn, Formatted, Start, StartLists, Kept, Condition3}
+use Rattle.lists.specs.Shown.{shown, Ready}
+use Rattle.lists.specs.ReadingLaws.{reads-one}
+use Rattle.lists.specs.PlaceLaws.{place-path}
+use Rattle.lists.specs.ExistsLaws.{row-or-exists}
+use Rattle.lists.specs.ReadLaws.{reads-forward, reads-backward}
+use Rattle.lists.specs.SweepLaws.{liveRecords, sweep-reads, sweep-same}
+use Rattle.lists.specs.Quiet.{never-damaged}
+use Rattle.lists.specs.Steps.{status?, AllRows, Shows, call-turned}
+
+-- ---- the reverse of a list of points
+
+reverse-onto : (b : List ℕ) (e : Entry) (us vs : List ℕ) → shown b e (reverseAux us vs) ≡ reverseAux (shown b e us) (shown b e vs)
+reverse-onto b e [] vs = refl
+reverse-onto b e (u ∷ us) vs = reverse-onto b e us (u ∷ vs)
+
+shown-reverse : (b : List ℕ) (e : Entry) (rs : List ℕ) → shown b e (reverse rs) ≡ reverse (shown b e rs)
+shown-reverse b e rs = reverse-onto b e rs []
+
+-- ---- where a sequence starts
+
+-- a schema that keeps the rules
+world : (s : List ℕ) → keepsRules s ≡ true → World (schemaOf s)
+unfolding schemaOf
+world s h = record { ok = guaranteed s h; fields = λ i l. fields-of s h i l }
+
+-- what every call that is done has passed: "1, 2"
+general : (c : Call) → outcome c .status ≡ Done → (keepsRules (c .schema) ≡ true) × (length (c .base) ≡ 512 * schemaOf (c .schema) .blocks)
+unfolding sceneUnder
+general c d =
+    let h = done-rungs c d .general in
+    let z : length (c .base) ≡ schemaOf (c .schema) .blocks * 512 = eqb-true _ _ (not-false _ (h .1 .0)) in
+    (not-false _ (h .0), omega arith)
+
+signing-on : operationOf (text "SINON") ≡ Sinon
+unfolding operationOf sameBytes
+signing-on = refl
+
+formatting : operationOf (text "FORMT") ≡ Formt
+unfolding operationOf sameBytes
+formatting = refl
+
+-- SINON's one test of its own
+signs-sound : (c : Call) → operationOf (c .operation) ≡ Sinon → outcome c .status ≡ Done → sound (schemaOf (c .schema)) (c .base) ≡ true
+unfolding sceneUnder
+signs-sound c q d = not-false _ (asked (oneOf (operationOf (c .operation)) (Sinon ∷ [])) _ (done-rungs c d .final .1 .1 .1 .0) (rw q refl))
+
+-- what FORMT leaves
+format-leaves : (c : Call) → operationOf (c .operation) ≡ Formt → outcome c .status ≡ Done → outcome c .base ≡ formatted (schemaOf (c .schema) .blocks)
+unfolding done baseAfter sceneUnder
+format-leaves c q d = rw (done-is c d) (rw q refl)
+
+-- such a data base stands for rows
+signed-ready : (s b : List ℕ) → SignsOn outcome s b → Ready s b (rowsIn (schemaOf s) b)
+signed-ready s b d =
+    let c = callOf (text "SINON") [] 0 [] [] [] s b in
+    let k = general c d in
+    let w = world s (k .0) in
+    record { rules = k .0; world = w; stands = sound-represents (schemaOf s) b w (k .1) (signs-sound c signing-on d) }
+
+format-ready : (s b : List ℕ) → Formatted outcome s b → Ready s b (λ i j key. [])
+format-ready s b f =
+    let c = callOf (text "FORMT") [] 0 [] [] [] s (f .0) in
+    let k = general c (f .1) in
+    let w = world s (k .0) in
+    record { rules = k .0; world = w; stands = rw (f .2, format-leaves c formatting (f .1)) (format-represents (schemaOf s) w) }
+
+start-ready : (s b : List ℕ) → Start outcome s b → (rows : AllRows) × Ready s b rows
+start-ready s b (inl h) = (rowsIn (schemaOf s) b, signed-ready s b h)
+start-ready s b (inr h) = (λ i j key. [], format-ready s b h)
+
+-- ---- sign-on accepts every such data base
+
+module _ (c : Call) (rows : AllRows) (g : Ready (c .schema) (c .base) rows) (q : operationOf (c .operation) ≡ Sinon) where
+  sign-rungs : Rungs (sceneOf c) c
+  unfolding sceneUnder storesOf blocksSealed
+  sign-rungs =
+      let z : length (c .base) ≡ schemaOf (c .schema) .blocks * 512 = omega (arith, g .stands .sized) in
+      record {
+        general = rw (q, g .rules, eq-eqb _ _ z) (refl, (refl, (refl, tt)));
+        parameters = rw q (refl, (refl, (refl, (refl, (refl, (refl, (refl, (refl, (refl, (refl, (refl, (refl, tt))))))))))));
+        found = rw q (refl, (refl, (refl, (refl, (refl, (refl, tt))))));
+        others = others-pass (sceneOf c) c (rw q refl) (rw q refl);
+        final = rw (q, represents-sound (schemaOf (c .schema)) (c .base) rows (g .world) (g .stands)) (refl, (refl, (refl, (refl, (refl, (refl, (refl, (refl, (refl, (refl, (refl, tt)))))))))));
+      }
+
+  signs : outcome c .status ≡ Done
+  unfolding done
+  signs = rw (outcome-done c (climbed (sceneOf c) c sign-rungs)) refl
+
+-- ---- readings show the rows
+
+module _ (s b : List ℕ) (rows : AllRows) (g : Ready s b rows) where
+  -- the lists that show the rows are those that it starts with
+  shown-starts : StartLists outcome s b (λ i j key. shown b (entryOf (schemaOf s) i) (rows i j key))
+  shown-starts = record {
+    read = λ w key p h. reads-forward s b rows g w p key h;
+    none = λ w key p n. ⊎-elim (λ z. rw z refl) (λ h. absurd (n h)) (row-or-exists s b rows g w p key);
+  }
+
+  -- and no others
+  starts-shown : (l : Lists) → StartLists outcome s b l → (w : Place) → IsPlace (schemaOf s) w → Shows (schemaOf s) b rows l (setAt (schemaOf s) w) (pathAt (schemaOf s) w)
+  starts-shown l h w p key = by (status? (outcome (callOf (text "READM") (w .masters) 0 [] key (w .master-area) s b) .status))
+    where
+      by : Exists outcome s b w key ⊎ (Exists outcome s b w key → ⊥)
+          → l (setAt (schemaOf s) w) (pathAt (schemaOf s) w) key ≡ shown b (entryAt (schemaOf s) w) (rows (setAt (schemaOf s) w) (pathAt (schemaOf s) w) key)
+      by (inl k) = reads-one (readv outcome s b w key) (link outcome s b w key) _ _ (h .read w key p k) (reads-forward s b rows g w p key k)
+      by (inr n) = h .none w key p n ∙ sym (shown-starts .none w key p n)
+
+  -- what is kept of one path and key
+  rows-kept : (w : Place) (key : List ℕ) → IsPlace (schemaOf s) w
+      → Kept outcome s b w key (shown b (entryAt (schemaOf s) w) (rows (setAt (schemaOf s) w) (pathAt (schemaOf s) w) key))
+  rows-kept w key p = record {
+    forward = λ h. reads-forward s b rows g w p key h;
+    backward = λ h. rw (shown-reverse b (entryAt (schemaOf s) w) (rows (setAt (schemaOf s) w) (pathAt (schemaOf s) w) key)) at (reads-backward s b rows g w p key h);
+    sweep = (shown b (entryAt (schemaOf s) w) (liveRecords b (entryAt (schemaOf s) w)), sweep-reads s b rows g w p key, sweep-same s b rows g w p key);
+    none = λ n. shown-starts .none w key p n;
+  }
+
+-- ---- the sequence
+
+-- one call
+turned-ready : (s b : List ℕ) (rows : AllRows) (g : Ready s b rows) (q : Request) → Ready s (outcome (under s b q) .base) (call-turned (under s b q) rows g .now)
+turned-ready s b rows g q = record { rules = g .rules; world = g .world; stands = call-turned (under s b q) rows g .stands }
+
+module _ (s : List ℕ) where
+  quiet-run : (b : List ℕ) (rows : AllRows) → Ready s b rows → (qs : List Request) → NoDamage outcome s b qs
+  quiet-run b rows g [] = tt
+  quiet-run b rows g (q ∷ qs) = (never-damaged (under s b q) rows g, quiet-run (outcome (under s b q) .base) _ (turned-ready s b rows g q) qs)
+
+  -- the rows at the end, and what the plain lists show there
+  abbrev Ended : List ℕ → Lists → ℕ → ℕ → Type 0
+  Ended b l i j = (rows : AllRows) × Ready s b rows × Shows (schemaOf s) b rows l i j
+
+  ends : (b : List ℕ) (rows : AllRows) → Ready s b rows → (qs : List Request) (l : Lists) (i j : ℕ) → IsPathOf (schemaOf s) i j → Shows (schemaOf s) b rows l i j
+      → Ended (run outcome s b qs) (plain outcome s b qs l) i j
+  unfolding run plain
+  ends b rows g [] l i j p h = (rows, g, h)
+  ends b rows g (q ∷ qs) l i j p h =
+      ends (outcome (under s b q) .base) (call-turned (under s b q) rows g .now) (turned-ready s b rows g q) qs _ i j p (call-turned (under s b q) rows g .shows l i j p h)
+
+  run-ready : (b : List ℕ) (rows : AllRows) → Ready s b rows → (qs : List Request) → (now : AllRows) × Ready s (run outcome s b qs) now
+  unfolding run
+  run-ready b rows g [] = (rows, g)
+  run-ready b rows g (q ∷ qs) = run-ready (outcome (under s b q) .base) (call-turned (under s b q) rows g .now) (turned-ready s b rows g q) qs
+
+-- ---- the theorem
+
+pub condition-3 : Condition3 outcome
+condition-3 = record {
+  starts = λ s b h. let r = start-ready s b h in (λ i j key. shown b (entryOf (schemaOf s) i) (r .0 i j key), shown-starts s b (r .0) (r .1));
+  empty = λ s b h. shown-starts s b (λ i j key. []) (format-ready s b h);
+  quiet = λ s b qs h. let r = start-ready s b h in quiet-run s b (r .0) (r .1) qs;
+  accepted = λ s b qs h. let r = start-ready s b h in let e = run-ready s b (r .0) (r .1) qs in signs (callOf (text "SINON") [] 0 [] [] [] s (run outcome s b qs)) (e .0) (e .1) signing-on;
+  kept = λ s b qs l h k w key p.
+      let r = start-ready s b h in
+      let i = setAt (schemaOf s) w in
+      let j = pathAt (schemaOf s) w in
+      let e = ends s b (r .0) (r .1) qs l i j (place-path (schemaOf s) w (r .1 .world .ok) p) (starts-shown s b (r .0) (r .1) l k w p) in
+      rw (e .2 key) (rows-kept s (run outcome s b qs) (e .0) (e .1) w key p);
+}

@@ -1,0 +1,5 @@
+pub mod Wrong
+pub mod Twin
+pub mod Trials
+pub mod TrialLaws
+pub mod WrongLaws

@@ -1,0 +1,87 @@
+-- Trials: a wrong store and the right one make the same calls from FORMT on, and are asked the same questions. Each trial says what the wrong
+-- store answers and what the right one does; TrialLaws computes that they do.
+use Prim.Native.Nat.{ℕ}
+use mathlib.Core.Path.{_≡_}
+use mathlib.Core.Bool.{false}
+use mathlib.Core.List.{List, [], _∷_}
+use lib.ListN.{replicate}
+use Rattle.octets.specs.Octets.{sameBytes, zeros}
+use Rattle.octets.specs.Text.{text}
+use Rattle.terms.specs.Terms.{endRef, linkRef}
+use Rattle.terms.specs.Status.{statusNumber}
+use Rattle.calls.specs.Call.{Call, Outcome}
+use Rattle.calls.specs.Outcome.{outcome}
+use Rattle.lists.specs.Readings.{Request, Place, under, run}
+use Rattle.wrongs.specs.Wrong.{refusesAll, alwaysDone, storesNothing, linksFirst, forgetsNext, formatLeaves, insertsAfter}
+use Rattle.wrongs.specs.Twin.{twin, formt, signOn, addBottle, addPoint, removePoint, path1, path2, readFrom, linkAt}
+
+-- FORMT is given `base`; the calls follow, then the questions
+pub record Trial : Type 0 where
+  pub store : Call → Outcome
+  pub base : List ℕ
+  pub calls : List Request
+  pub questions : List Request
+  pub wrong : List ℕ
+  pub right : List ℕ
+
+-- the status and the reference that each question is answered with
+unfoldable pub answers : (Call → Outcome) → List ℕ → List Request → List ℕ
+answers store b [] = []
+answers store b (q ∷ qs) = statusNumber (store (under twin b q) .status) ∷ store (under twin b q) .reference ∷ answers store b qs
+
+-- the data base that FORMT leaves, the one after the calls, and the answers
+abbrev pub startOf : (Call → Outcome) → Trial → List ℕ
+startOf store x = store (under twin (x .base) formt) .base
+
+abbrev pub endOf : (Call → Outcome) → Trial → List ℕ
+endOf store x = run store twin (startOf store x) (x .calls)
+
+abbrev pub told : (Call → Outcome) → Trial → List ℕ
+told store x = answers store (endOf store x) (x .questions)
+
+-- the two stores answer so, and not the same
+abbrev pub Holds : Trial → Type 0
+Holds x = (told (x .store) x ≡ x .wrong) × (told outcome x ≡ x .right) × (sameBytes (x .wrong) (x .right) ≡ false)
+
+-- ---- trials of two kinds
+
+-- sign-on after the calls: it is to accept, and refuses
+abbrev pub signing : (Call → Outcome) → List ℕ → List Request → Trial
+signing store base calls = record { store = store; base = base; calls = calls; questions = signOn ∷ []; wrong = 16 ∷ 0 ∷ []; right = 0 ∷ 0 ∷ [] }
+
+-- READV of a path: with LKxx, then with the points of `more`. With LKxx the wrong store gives a, the right one n.
+abbrev pub reading : (Call → Outcome) → List Request → Place → List Request → ℕ → List ℕ → ℕ → List ℕ → Trial
+reading store calls w more a bs n ms =
+    record { store = store; base = zeros 1024; calls = calls; questions = readFrom w (linkAt w) ∷ more; wrong = 0 ∷ a ∷ bs; right = 0 ∷ n ∷ ms }
+
+-- ---- the trials
+
+-- sign-on is FUNC
+abbrev pub refusing : Trial
+refusing = record { store = refusesAll; base = zeros 1024; calls = []; questions = signOn ∷ []; wrong = 3 ∷ 0 ∷ []; right = 0 ∷ 0 ∷ [] }
+
+-- a bottle with no points reads END.; the wrong store gives LKQT back
+abbrev pub doing : Trial
+doing = reading alwaysDone (addBottle ∷ []) path2 [] (linkRef 81 84) [] endRef []
+
+-- FORMT is given zeros, where the second block's check is false
+abbrev pub leavingAll : Trial
+leavingAll = signing storesNothing (zeros 1024) []
+
+-- a bottle with one point: the second path reads 1 and END., in the wrong store END. at once
+abbrev pub linking : Trial
+linking = reading linksFirst (addBottle ∷ addPoint (text "ADDVC") 0 ∷ []) path2 (readFrom path2 1 ∷ []) endRef (0 ∷ endRef ∷ []) 1 (0 ∷ endRef ∷ [])
+
+-- a point is added and removed
+abbrev pub removing : Trial
+removing = signing forgetsNext (zeros 1024) (addBottle ∷ addPoint (text "ADDVC") 0 ∷ removePoint 1 ∷ [])
+
+-- a point, and a second one before it: the right store reads 2, 1 and END., the wrong one 1, 2 and END.
+abbrev pub inserting : Trial
+inserting =
+    reading insertsAfter (addBottle ∷ addPoint (text "ADDVC") 0 ∷ addPoint (text "ADDVB") 1 ∷ []) path1 (readFrom path1 1 ∷ readFrom path1 2 ∷ []) 1
+    (0 ∷ 2 ∷ 0 ∷ endRef ∷ []) 2 (0 ∷ endRef ∷ 0 ∷ 1 ∷ [])
+
+-- FORMT is given ones
+abbrev pub formatting : Trial
+formatting = signing formatLeaves (replicate 1024 1) []
