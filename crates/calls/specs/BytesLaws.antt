@@ -169,14 +169,14 @@ module _ (e : Entry) where
   unfolding addStores
   a-add {area} ha b t s named r =
       first (a-newVariable e ha (upto (addLink b t e area s named) (e .count)))
-      (paths _ (e .count) (λ k.
+      (paths _ _ (λ k.
       two-sides (pathOf e k) (mastersOn t e k) (addMaster b t e area s named k) (addLink b t e area s named k .prior) (addLink b t e area s named k .next) r r))
 
   a-del : (b : List ℕ) (t : Schema) (r : ℕ) → OfBytes (delStores b t e r)
   unfolding delStores
   a-del b t r =
       then
-      (paths _ (e .count) (λ k.
+      (paths _ _ (λ k.
       let l = ownLink b t e r k in
       two-sides (pathOf e k) (mastersOn t e k) (ownMaster b t e r k) (l .prior) (l .next) (l .next) (l .prior)))
       (first (nulls (e .size)) none)

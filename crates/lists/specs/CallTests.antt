@@ -8,7 +8,7 @@ use lib.Dec.{eqb}
 use borrow.Author.Tests.{ltb-false, not-false, ne-eqb}
 use Rattle.octets.specs.Octets.{sameBytes}
 use Rattle.octets.specs.Below.{concatBelow}
-use Rattle.octets.specs.BelowLaws.{never-both, allBelow-at, same?}
+use Rattle.octets.specs.BelowLaws.{allBelow-at, same?}
 use Rattle.octets.specs.RunLaws.{sameBytes-eq}
 use Rattle.terms.specs.declared.Status.the-variants.{Mrnf, Imdl, Full}
 use Rattle.terms.specs.declared.Operation.{Operation}
@@ -35,6 +35,7 @@ use Rattle.calls.specs.Ladder.{on, otherStoredKey, parameterTests, foundTests, 
 use Rattle.calls.specs.LadderLaws.{Passes}
 use Rattle.calls.specs.Reply.{masterIn, homeOfKey, spotOf}
 use Rattle.lists.specs.Calm.{asked, passes-left, passes-at}
+use Rattle.lists.specs.Operations.{some-add}
 use Rattle.lists.specs.Passed.{on-masters, on-points, area-right, key-told, area-keys-told, area-key-same, number-told, same-master-key, same-path-key, no-blank-keys}
 
 -- ---- what a search found
@@ -57,37 +58,6 @@ point-told b e p key r h = let a = and-eq-true-iff (isLive b e r) (sameBytes (ke
 stored-keys : (b : List ℕ) (e : Entry) (r : ℕ) (area : List ℕ) → otherStoredKey b e r area ≡ false → (k : ℕ) → k < e .count → areaKeyOn e area k ≡ keyOn b e r (pathOf e k)
 unfolding otherStoredKey
 stored-keys b e r area h k l = sameBytes-eq _ _ (allBelow-at (λ k. sameBytes (areaKeyOn e area k) (keyOn b e r (pathOf e k))) (e .count) k (not-false _ h) l)
-
--- ---- the adds among the calls
-
-abbrev pub AddFacts : Operation → Type 0
-AddFacts u =
-    (oneOf u (Formt ∷ Sinon ∷ []) ≡ false)
-    × (oneOf u variableCalls ≡ true)
-    × (oneOf u (AddM ∷ DelM ∷ Readm ∷ Writm ∷ variableCalls) ≡ true)
-    × (oneOf u (DelM ∷ Readm ∷ Writm ∷ variableCalls) ≡ true)
-    × (oneOf u (AddM ∷ Writm ∷ adds) ≡ true)
-    × (oneOf u (AddM ∷ adds) ≡ true)
-    × (oneOf u (Formt ∷ Sinon ∷ DelM ∷ Delvd ∷ Rqloc ∷ []) ≡ false)
-
-pub some-add : (u : Operation) → oneOf u adds ≡ true → AddFacts u
-some-add Addvc h = (refl, refl, refl, refl, refl, refl, refl)
-some-add Addvb h = (refl, refl, refl, refl, refl, refl, refl)
-some-add Addva h = (refl, refl, refl, refl, refl, refl, refl)
-some-add Formt h = absurd (never-both false h refl)
-some-add Sinon h = absurd (never-both false h refl)
-some-add AddM h = absurd (never-both false h refl)
-some-add DelM h = absurd (never-both false h refl)
-some-add Readm h = absurd (never-both false h refl)
-some-add Writm h = absurd (never-both false h refl)
-some-add Rqloc h = absurd (never-both false h refl)
-some-add Rdnxt h = absurd (never-both false h refl)
-some-add Readv h = absurd (never-both false h refl)
-some-add Readr h = absurd (never-both false h refl)
-some-add Readd h = absurd (never-both false h refl)
-some-add Writv h = absurd (never-both false h refl)
-some-add Delvd h = absurd (never-both false h refl)
-some-add Unknown h = absurd (never-both false h refl)
 
 module _ (t : Schema) (ok : SchemaOk t) (c : Call) where
   abbrev x : Scene

@@ -1,16 +1,13 @@
 -- No call says DAMG on a data base that stands for rows: each test that would say so passes, once the tests in front of it have passed. So a
 -- search finds its key or misses it, neighbours are on the chain, and every block stored into has a true check.
 use Prim.Native.Nat.{ℕ, _<_}
-use mathlib.Core.Path.{_≡_, refl, sym, ap, _∙_}
+use mathlib.Core.Path.{_≡_, refl, sym, ap}
 use mathlib.Core.Logic.{_≢_, _⊎_, inl, inr}
-use mathlib.Core.Bool.{Bool, true, false, not, _||_}
+use mathlib.Core.Bool.{Bool, true, false, not}
 use mathlib.Core.List.{List, [], _∷_, _++_}
 use native.Mathlib.Omega.{arith}
 use lib.Dec.{eqb, lit<}
-use lib.ListN.{getD}
-use borrow.Author.Tests.{eqb-true}
 use Rattle.octets.specs.Below.{concatBelow}
-use Rattle.octets.specs.BelowLaws.{never-both}
 use Rattle.terms.specs.declared.Status.{Status}
 use Rattle.terms.specs.declared.Status.the-variants.{Mrnf, Imdl, Full, Damg}
 use Rattle.terms.specs.declared.Operation.{Operation}
@@ -34,7 +31,7 @@ use Rattle.chains.specs.Points.{findOn, addDamaged, delDamaged, addStores}
 use Rattle.keeping.specs.Tests.{AddTests}
 use Rattle.housing.specs.FindLaws.{find-quiet, find-at}
 use Rattle.housing.specs.QuietLaws.{add-master-quiet, del-master-quiet}
-use Rattle.calls.specs.Call.{Call, operationNumber, oneOf, masterCalls, variableCalls, adds}
+use Rattle.calls.specs.Call.{Call, oneOf, adds}
 use Rattle.calls.specs.Scene.{Scene, setNamed, pathNamed, sceneUnder}
 use Rattle.calls.specs.Ladder.{on, isLink, finders, generalTests, parameterTests, foundTests, masterTests, otherMasterTests, finalTests, ladder}
 use Rattle.calls.specs.LadderLaws.{Passes}
@@ -43,7 +40,8 @@ use Rattle.calls.specs.Theorems.{status-of-ladder}
 use Rattle.calls.specs.Reply.{masterIn, homeOfKey, forward, backward, spotOf, storesBy, storesOf}
 use Rattle.lists.specs.Calm.{Calm, calm-refusal, calm-append, calm-below, others-calm, if-asked}
 use Rattle.lists.specs.Passed.{on-masters, on-points}
-use Rattle.lists.specs.CallTests.{found-master, found-point, add-master-tests, del-master-tests, write-master-tests, del-tests, write-tests, some-add, add-tests}
+use Rattle.lists.specs.Operations.{Kinds, kinds, one-of, some-add}
+use Rattle.lists.specs.CallTests.{found-master, found-point, add-master-tests, del-master-tests, write-master-tests, del-tests, write-tests, add-tests}
 use Rattle.lists.specs.QuietReads.{forward-quiet, backward-quiet}
 use Rattle.lists.specs.Shown.{Ready}
 use Rattle.linking.specs.Neighbours.{add-quiet, del-quiet, own-found}
@@ -52,64 +50,6 @@ use Rattle.linking.specs.AddSteps.{add-storable}
 use Rattle.linking.specs.DelSteps.{del-storable}
 use Rattle.linking.specs.WriteSteps.{write-storable}
 use Rattle.housing.specs.MasterSteps.{add-master-storable, del-master-storable, write-master-storable}
-
--- ---- operations
-
--- a call that looks a control key up is on points or on masters
-abbrev Kinds : Operation → Type 0
-Kinds u =
-    ((oneOf u variableCalls ≡ true) × (oneOf u (DelM ∷ Readm ∷ Writm ∷ variableCalls) ≡ true) × (oneOf u (Formt ∷ Sinon ∷ []) ≡ false))
-    ⊎ ((oneOf u variableCalls ≡ false) × (oneOf u masterCalls ≡ true) × (oneOf u (Formt ∷ Sinon ∷ []) ≡ false))
-
-kinds : (u : Operation) → oneOf u finders ≡ true → Kinds u
-kinds AddM h = inr (refl, refl, refl)
-kinds DelM h = inr (refl, refl, refl)
-kinds Readm h = inr (refl, refl, refl)
-kinds Writm h = inr (refl, refl, refl)
-kinds Readv h = inl (refl, refl, refl)
-kinds Readr h = inl (refl, refl, refl)
-kinds Readd h = inl (refl, refl, refl)
-kinds Writv h = inl (refl, refl, refl)
-kinds Addvc h = inl (refl, refl, refl)
-kinds Addvb h = inl (refl, refl, refl)
-kinds Addva h = inl (refl, refl, refl)
-kinds Delvd h = inl (refl, refl, refl)
-kinds Formt h = absurd (never-both false h refl)
-kinds Sinon h = absurd (never-both false h refl)
-kinds Rqloc h = absurd (never-both false h refl)
-kinds Rdnxt h = absurd (never-both false h refl)
-kinds Unknown h = absurd (never-both false h refl)
-
--- the operation that a list of one names
-abbrev byNumber : ℕ → Operation
-byNumber k =
-    getD (Formt ∷ Sinon ∷ AddM ∷ DelM ∷ Readm ∷ Writm ∷ Rqloc ∷ Rdnxt ∷ Readv ∷ Readr ∷ Readd ∷ Writv ∷ Addvc ∷ Addvb ∷ Addva ∷ Delvd ∷ []) k Unknown
-
-by-number : (u : Operation) → byNumber (operationNumber u) ≡ u
-by-number Formt = refl
-by-number Sinon = refl
-by-number AddM = refl
-by-number DelM = refl
-by-number Readm = refl
-by-number Writm = refl
-by-number Rqloc = refl
-by-number Rdnxt = refl
-by-number Readv = refl
-by-number Readr = refl
-by-number Readd = refl
-by-number Writv = refl
-by-number Addvc = refl
-by-number Addvb = refl
-by-number Addva = refl
-by-number Delvd = refl
-by-number Unknown = refl
-
-pub one-of : (u v : Operation) → oneOf u (v ∷ []) ≡ true → u ≡ v
-one-of u v h = sym (by-number u) ∙ ap byNumber (eqb-true (operationNumber u) (operationNumber v) (or-false (eqb (operationNumber u) (operationNumber v)) h)) ∙ by-number v
-  where
-    or-false : (a : Bool) → (a || false) ≡ true → a ≡ true
-    or-false true h = refl
-    or-false false h = h
 
 -- a test of another status
 mild : (s : Status) (f : Bool) → statusNumber s < 16 → (s ≢ Damg) ⊎ (f ≡ false)

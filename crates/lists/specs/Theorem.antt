@@ -1,7 +1,7 @@
 -- Condition 3, proved: `Condition3 outcome`. A data base that a sequence starts with stands for rows (sign-on accepts no other, FORMT leaves
 -- none but empty ones); each call keeps that and changes the rows as the plain step changes the lists; and readings show the rows.
 use Prim.Native.Nat.{ℕ, _*_}
-use mathlib.Core.Path.{_≡_, refl, sym, _∙_}
+use mathlib.Core.Path.{_≡_, refl, sym, _∙_, fun-ext}
 use mathlib.Core.Logic.{_⊎_, inl, inr, ⊎-elim}
 use mathlib.Core.Bool.{true}
 use mathlib.Core.List.{List, [], _∷_, reverse, reverseAux}
@@ -23,10 +23,11 @@ use Rattle.sound.specs.Sound.{sound}
 use Rattle.keeping.specs.Rows.{World}
 use Rattle.keeping.specs.FreshLaws.{format-represents}
 use Rattle.linking.specs.Standing.{rowsIn, sound-represents, represents-sound}
-use Rattle.calls.specs.Call.{Call, callOf, oneOf}
+use Rattle.calls.specs.Call.{Call, Outcome, callOf, oneOf}
 use Rattle.calls.specs.Scene.{sceneOf, sceneUnder}
 use Rattle.calls.specs.LadderLaws.{others-pass}
-use Rattle.calls.specs.Outcome.{done, outcome}
+use Rattle.calls.specs.Outcome.{done, outcome, IsOutcome}
+use Rattle.calls.specs.Theorems.{has-outcome, one-outcome}
 use Rattle.calls.specs.Reply.{storesOf, baseAfter}
 use Rattle.plans.specs.Plan.{blocksSealed, formatted}
 use Rattle.lists.specs.Calm.{asked}
@@ -41,7 +42,8 @@ use Rattle.lists.specs.ExistsLaws.{row-or-exists}
 use Rattle.lists.specs.ReadLaws.{reads-forward, reads-backward}
 use Rattle.lists.specs.SweepLaws.{liveRecords, sweep-reads, sweep-same}
 use Rattle.lists.specs.Quiet.{never-damaged}
-use Rattle.lists.specs.Steps.{status?, AllRows, Shows, call-turned}
+use Rattle.lists.specs.Turns.{AllRows, Shows}
+use Rattle.lists.specs.Steps.{status?, call-turned}
 
 -- ---- the reverse of a list of points
 
@@ -194,3 +196,12 @@ condition-3 = record {
       let e = ends s b (r .0) (r .1) qs l i j (place-path (schemaOf s) w (r .1 .world .ok) p) (starts-shown s b (r .0) (r .1) l k w p) in
       rw (e .2 key) (rows-kept s (run outcome s b qs) (e .0) (e .1) w key p);
 }
+
+-- ---- every store that meets condition 2 meets condition 3
+
+-- such a store is `outcome`
+pub is-outcome : (answer : Call → Outcome) → ((c : Call) → IsOutcome c (answer c)) → answer ≡ outcome
+is-outcome answer h = fun-ext (λ c. one-outcome c (answer c) (outcome c) (h c) (has-outcome c))
+
+pub conditions-2-3 : (answer : Call → Outcome) → ((c : Call) → IsOutcome c (answer c)) → Condition3 answer
+conditions-2-3 answer h = rw (is-outcome answer h) condition-3

@@ -1,7 +1,7 @@
 -- The wrong stores do not meet the conditions. Condition 2: a store that meets it is `outcome`, and so answers every trial as `outcome` does.
 -- Condition 3: after the trial's calls sign-on accepts, and READV with LKxx gives the first point of the plain list.
 use Prim.Native.Nat.{ℕ}
-use mathlib.Core.Path.{_≡_, refl, sym, ap, _∙_, fun-ext}
+use mathlib.Core.Path.{_≡_, refl, sym, ap, _∙_}
 use mathlib.Core.Logic.{_≢_, inl, inr}
 use mathlib.Core.List.{List, [], _∷_}
 use native.Mathlib.Omega.{arith}
@@ -12,10 +12,11 @@ use Rattle.terms.specs.Terms.{endRef}
 use Rattle.terms.specs.Status.{statusNumber}
 use Rattle.schema.specs.Decode.{schemaOf}
 use Rattle.calls.specs.Call.{Call, Outcome}
-use Rattle.calls.specs.Outcome.{outcome, IsOutcome}
+use Rattle.calls.specs.Outcome.{IsOutcome}
 use Rattle.lists.specs.Plain.{Point}
 use Rattle.lists.specs.Readings.{Request, Reads, Place, setAt, pathAt, readv}
 use Rattle.lists.specs.Condition.{Formatted, Condition3}
+use Rattle.lists.specs.Theorem.{is-outcome}
 use Rattle.wrongs.specs.Twin.{twin, bottle, path2, linkAt}
 use Rattle.wrongs.specs.Wrong.{refusesAll, alwaysDone, storesNothing, linksFirst, forgetsNext, formatLeaves, insertsAfter}
 use Rattle.wrongs.specs.Trials.{Trial, answers, startOf, endOf, told, Holds, signing, reading, refusing, doing, leavingAll, linking, removing, inserting, formatting}
@@ -23,11 +24,7 @@ use Rattle.wrongs.specs.TrialLaws.{Formats, numbers, plainOn, Readable, 
 
 -- ---- condition 2
 
--- a store that meets it is the right one
-is-outcome : (store : Call → Outcome) → ((c : Call) → IsOutcome c (store c)) → store ≡ outcome
-is-outcome store h = fun-ext (λ c i. record { status = h c .status i; reference = h c .reference i; area = h c .area i; base = h c .base i })
-
--- so no trial tells it from the right one
+-- a store that meets it is the right one, so no trial tells it from the right one
 not-2 : (x : Trial) → Holds x → ((c : Call) → IsOutcome c (x .store c)) → ⊥
 not-2 x t h = never-both _ (eq-sameBytes _ _ (sym (t .0) ∙ ap (λ (store : Call → Outcome). told store x) (is-outcome (x .store) h) ∙ t .1)) (t .2)
 
