@@ -1,1 +1,3 @@
-// What a commit leaves at each address, and the state that every call keeps: the ground of condition 3.
+// The ground of condition 3. The files of specs/ in the order of reading: what a storing call does, by address (Deeds), what it leaves there
+// (Holds, DeedLaws) and of checks and free room (SettleLaws); what two data bases have in common (Frames); the state that every call keeps
+// (Rows), and that FORMT leaves it (FreshLaws); what a call has passed before it stores (Tests).
