@@ -1,252 +1,179 @@
--- What ADD-M and DEL-M do to the home lists keeps a set of masters sound: a new master alone at its home, one behind its home's last, a
--- stranger that makes room for one, a synonym that moves into its home, and a master that is unlinked. Each is a change of the middle of one
--- home's list; a stranger leaves an empty list, which becomes the new master's.
+-- What ADD-M and DEL-M do to the home lists keeps a set of masters sound: a new master behind its home's last, or alone at its home; a stranger
+-- that makes room for one; a synonym that moves into its home; a master that is unlinked. Each is a change of the middle of one home's list; a
+-- stranger leaves an empty list, which becomes the new master's. Document 01, "Where masters live".
 use Prim.Native.Nat.{ℕ, _≤_}
 use mathlib.Core.Path.{_≡_, refl, sym, ap, _∙_}
-use mathlib.Core.Logic.{_≢_, _⊎_, inl, inr, ⊎-elim}
-use mathlib.Core.Bool.{true, false, and-eq-true-iff}
-use mathlib.Core.List.{List, [], _∷_, _++_, append-nil}
-use native.Mathlib.Omega.{arith}
+use mathlib.Core.Logic.{_≢_, inl, inr, ⊎-elim}
+use mathlib.Core.Bool.{false, cond}
+use mathlib.Core.List.{List, [], _∷_, append-nil}
 use lib.Dec.{eqb}
-use borrow.Author.Tests.{eq-eqb}
+use borrow.Author.Tests.{eq-eqb, ne-eqb}
 use Rattle.octets.specs.Octets.{allBlank}
 use Rattle.octets.specs.BelowLaws.{never-both, same?}
-use Rattle.terms.specs.Laws.{home-in-set}
 use Rattle.schema.specs.declared.Entry.{Entry}
 use Rattle.schema.specs.Place.{InSet}
 use Rattle.records.specs.Records.{isLive, rootNext, rootPrior, masterKey}
 use Rattle.masters.specs.Find.{homeIn, ownHome, heldByOwn}
-use Rattle.chains.specs.Members.{All, all-in, all-right}
-use Rattle.chains.specs.Segments.{lastOr, headOr}
+use Rattle.masters.specs.WalkLaws.{home-in-set}
+use Rattle.chains.specs.Members.{all-in, all-right}
+use Rattle.chains.specs.Segments.{lastOr}
 use Rattle.sound.specs.Sound.{homeList}
 use Rattle.sound.specs.KeyLaws.{Live, MasterSet}
 use Rattle.sound.specs.HomeLaws.{OfHome}
-use Rattle.housing.specs.HomeRows.{HomeRows}
-use Rattle.housing.specs.Effects.{Stands, AtHome, Behind, Displaced, Promoted, Unlinked}
-use Rattle.housing.specs.RowLaws.{rows-of, held-list, none-list, place-in-list}
-use Rattle.housing.specs.MoveLaws.{Chained, linked-chained}
-use Rattle.housing.specs.TouchLaws.{Origin, Changed, HomeRow, none-else, changed-sound}
+use Rattle.housing.specs.LinkedLists.{none-first}
+use Rattle.housing.specs.RowLaws.{HomeRow, Place, own-holds, none-list, no-zeros, rows-of, own-row, place-in-list}
+use Rattle.housing.specs.Neighbours.{stranger, Second, first-home, second}
+use Rattle.housing.specs.TouchLaws.{Stands, Kept, Origin, Changed, still-full, changed-sound}
 
 module _ (b c : List ℕ) (e : Entry) (some : 1 ≤ e .records) (ms : MasterSet b e) where
-  abbrev homes : ℕ → List ℕ
-  homes = homeList b e
-
-  abbrev rows : HomeRows b e homes
-  rows = rows-of b e some ms
-
   -- the home of a record that stands with a key is the key's
   home-of : (r x n p : ℕ) (k : List ℕ) → Stands c e r k n p → OfHome c e x r → x ≡ homeIn e k
   home-of r x n p k s o = sym (o .1) ∙ ap (homeIn e) (s .key)
 
-  -- a new master has a new key
-  new-origin : (r y z n p : ℕ) (key : List ℕ) → Stands c e r key n p → allBlank key ≡ false → ((m : ℕ) → Live b e m → masterKey b e m ≢ key) → Origin b c e r y z r
-  new-origin r y z n p key s blank none = inl (refl, rw (s .key) blank, λ m l. rw (s .key) (none m l))
+  -- ---- a new master, with a key that none has
 
-  -- ---- a new master, alone at its home or behind the last of its home's list
+  module _ (key : List ℕ) (blank : allBlank key ≡ false) (none : (m : ℕ) → Live b e m → masterKey b e m ≢ key) where
+    new-origin : (r n p : ℕ) (to : ℕ → ℕ) → Stands c e r key n p → Origin b c e r to r
+    new-origin r n p to s = inl (refl, rw (s .key) blank, λ m l. rw (s .key) (none m l))
 
-  pub at-home : (h : ℕ) (key : List ℕ) → InSet e h → homeIn e key ≡ h → isLive b e h ≡ false → allBlank key ≡ false
-      → ((m : ℕ) → Live b e m → masterKey b e m ≢ key) → AtHome b c e h key → MasterSet c e
-  at-home h key ih hk free blank none ef =
-      changed-sound b c e some ms (h ∷ []) 0 0 h [] [] (h ∷ []) [] change h 0 0 (λ r i f. omega arith) (λ l. new-origin h 0 0 0 0 key (ef .new) blank none, tt)
-      (λ x ne. inr (λ o. ne (home-of h x 0 0 key (ef .new) o ∙ hk), tt))
+    -- in the free record x, behind the last of its home's list
+    pub added : (x l : ℕ) → InSet e x → isLive b e x ≡ false → l ≡ lastOr 0 (homeList b e (homeIn e key)) → (l ≡ 0 → x ≡ homeIn e key)
+        → Stands c e x key 0 l → Kept b c e (x ∷ []) l 0 (x ∷ []) → MasterSet c e
+    added x l ix free el first new k =
+        changed-sound b c e some ms (x ∷ []) l 0 (homeIn e key) (homeList b e (homeIn e key)) [] (x ∷ []) [] change x (λ o. o) (λ r f. refl)
+        (λ o. new-origin x 0 l (λ o. o) new, tt) (λ y ne. inr (λ o. ne (home-of x y 0 l key new o), tt))
+      where
+        change : Changed b c e (x ∷ []) l 0 (homeIn e key) (homeList b e (homeIn e key)) [] (x ∷ []) []
+        change = record {
+          kept = k;
+          home = home-in-set e key some;
+          list = rw append-nil refl;
+          before = el;
+          behind = refl;
+          old = tt;
+          each = (inr free, tt);
+          middle = (new .prior, new .next, tt);
+          begins = λ z. inr (first z);
+          new = (((ix, new .live), ap (homeIn e) (new .key)), tt);
+          full = (λ o. inl refl, tt);
+        }
+
+    -- in its home h, from which a stranger moves to the free record x and stays in its own home's list
+    pub displaced : (h x : ℕ) → h ≡ homeIn e key → Live b e h → heldByOwn b e h ≡ false → InSet e x → isLive b e x ≡ false
+        → Stands c e h key 0 0 → Stands c e x (masterKey b e h) (rootNext b e h) (rootPrior b e h)
+        → Kept b c e (x ∷ h ∷ []) (rootPrior b e h) (rootNext b e h) (x ∷ []) → MasterSet c e
+    displaced h x hk live away ix free new moved k =
+        changed-sound b c e some ms (x ∷ h ∷ []) (rootPrior b e h) (rootNext b e h) (ownHome b e h) (at .0) (h ∷ []) (x ∷ []) (at .1) change h to
+        (λ r f. rw (ne-eqb r h (f .1 .0)) refl) (λ o. inr (h, live, moved .key, rw (eq-eqb h h refl) refl), (λ o. new-origin h 0 0 to new, tt))
+        (λ y ne. ⊎-elim (λ q. inl (h ∷ [], λ i. rw q lone)) (λ d. inr (λ o. ne (its y o), (λ o. d (mine y o), tt))) (same? y h))
+      where
+        to : ℕ → ℕ
+        to o = cond (eqb o h) x o
+
+        at : Place b e (homeList b e (ownHome b e h)) h
+        at = place-in-list b e some ms h live
+
+        strange : h ≢ ownHome b e h
+        strange = stranger b e h (live .1) away
+
+        mine : (y : ℕ) → OfHome c e y h → y ≡ h
+        mine y o = home-of h y 0 0 key new o ∙ sym hk
+
+        its : (y : ℕ) → OfHome c e y x → y ≡ ownHome b e h
+        its y o = home-of x y (rootNext b e h) (rootPrior b e h) (masterKey b e h) moved o
+
+        change : Changed b c e (x ∷ h ∷ []) (rootPrior b e h) (rootNext b e h) (ownHome b e h) (at .0) (h ∷ []) (x ∷ []) (at .1)
+        change = record {
+          kept = k;
+          home = home-in-set e (masterKey b e h) some;
+          list = at .2;
+          before = at .3;
+          behind = at .4;
+          old = (inr (inl refl), tt);
+          each = (inr free, (inl (inl refl), tt));
+          middle = (moved .prior, moved .next, tt);
+          begins = λ z. absurd (strange (first-home b e some ms h live z));
+          new = (((ix, moved .live), ap (homeIn e) (moved .key)), tt);
+          full = (λ o. inl refl, (λ o. absurd (strange (sym (mine (ownHome b e h) o))), tt));
+        }
+
+        -- the new master's home had none: it has only that one
+        lone : HomeRow c e h (h ∷ [])
+        lone = record {
+          chain = (new .prior, new .next, tt);
+          begins = inr refl;
+          only = (((live .0, new .live), ap (homeIn e) (new .key) ∙ sym hk), tt);
+          full = still-full b c e some ms (x ∷ h ∷ []) (rootPrior b e h) (rootNext b e h) (ownHome b e h) (at .0) (h ∷ []) (x ∷ []) (at .1) change h (live .0) (h ∷ [])
+              (λ o. absurd (strange (its h o)), (λ o. inl refl, tt))
+              (λ r f m. absurd (rw (none-list b e h (homeList b e h) (rows-of b e some ms .row h (live .0)) away) at m));
+        }
+
+  -- ---- a master is deleted
+
+  -- at its home h: its first synonym moves there
+  pub promoted : (h : ℕ) → Live b e h → ownHome b e h ≡ h → rootNext b e h ≢ 0
+      → Stands c e h (masterKey b e (rootNext b e h)) (rootNext b e (rootNext b e h)) 0 → isLive c e (rootNext b e h) ≡ false
+      → Kept b c e (h ∷ rootNext b e h ∷ []) 0 (rootNext b e (rootNext b e h)) (h ∷ []) → MasterSet c e
+  promoted h live own more moved gone k =
+      changed-sound b c e some ms (h ∷ rootNext b e h ∷ []) 0 (rootNext b e (rootNext b e h)) h [] (h ∷ rootNext b e h ∷ []) (h ∷ []) (at .0) change 0 to
+      (λ r f. rw (ne-eqb r (rootNext b e h) (f .1 .0)) refl)
+      (λ o. inr (rootNext b e h, s .0, moved .key, rw (eq-eqb (rootNext b e h) (rootNext b e h) refl) refl), (λ l. absurd (dead l), tt))
+      (λ x ne. inr (λ o. ne (home-of h x (rootNext b e (rootNext b e h)) 0 (masterKey b e (rootNext b e h)) moved o ∙ s .1), (λ o. dead (o .0), tt)))
     where
-      change : Changed b c e (h ∷ []) 0 0 h [] [] (h ∷ []) []
-      change = record {
-        live-else = λ a i f. ef .live-else a i (f .0);
-        key-else = λ a i f. ef .key-else a i (f .0);
-        next-else = λ a i f z. ef .next-else a i (f .0);
-        prior-else = λ a i f z. ef .prior-else a i (f .0);
-        home = ih;
-        list = none-list b e homes some rows h ih (rw free refl);
-        before = refl;
-        behind = refl;
-        old = tt;
-        each = (inr free, tt);
-        middle = (ef .new .prior, ef .new .next, tt);
-        next = λ o. absurd (omega arith);
-        prior = λ o. absurd (omega arith);
-        begins = λ q. inr refl;
-        new = (((ih, ef .new .live), rw (ef .new .key) hk), tt);
-        full = (λ o. inl refl, tt);
-      }
+      to : ℕ → ℕ
+      to o = cond (eqb o (rootNext b e h)) h o
 
-  pub behind : (h f l : ℕ) (key : List ℕ) → InSet e h → homeIn e key ≡ h → heldByOwn b e h ≡ true → InSet e f → isLive b e f ≡ false
-      → l ≡ lastOr 0 (homeList b e h) → allBlank key ≡ false → ((m : ℕ) → Live b e m → masterKey b e m ≢ key) → Behind b c e f l key → MasterSet c e
-  behind h f l key ih hk held jf free el blank none ef =
-      changed-sound b c e some ms (f ∷ []) l 0 h (homes h) [] (f ∷ []) [] change f 0 0 (λ r i f. omega arith) (λ o. new-origin f 0 0 0 l key (ef .new) blank none, tt)
-      (λ x ne. inr (λ o. ne (home-of f x 0 l key (ef .new) o ∙ hk), tt))
-    where
-      change : Changed b c e (f ∷ []) l 0 h (homes h) [] (f ∷ []) []
-      change = record {
-        live-else = λ a i n. ef .live-else a i (n .0);
-        key-else = λ a i n. ef .key-else a i (n .0);
-        next-else = λ a i n z. ef .next-else a i (n .0) z;
-        prior-else = λ a i n z. ef .prior-else a i (n .0);
-        home = ih;
-        list = rw append-nil refl;
-        before = el;
-        behind = refl;
-        old = tt;
-        each = (inr free, tt);
-        middle = (ef .new .prior, ef .new .next, tt);
-        next = λ o. ef .last;
-        prior = λ o. absurd (omega arith);
-        begins = λ q. absurd (let z : _≡_ {A = ℕ} 0 1 = cc (held-list b e homes some rows h ih held .1) in omega arith);
-        new = (((jf, ef .new .live), rw (ef .new .key) hk), tt);
-        full = (λ o. inl refl, tt);
-      }
-
-  -- ---- a master and its neighbours in its home's list
-
-  abbrev Place : ℕ → Type 0
-  Place r = (us vs : List ℕ) × (homes (ownHome b e r) ≡ us ++ (r ∷ vs)) × (rootPrior b e r ≡ lastOr 0 us) × (rootNext b e r ≡ headOr 0 vs)
-
-  home-in : (r : ℕ) → InSet e (ownHome b e r)
-  home-in r = home-in-set (e .records) (masterKey b e r) some
-
-  -- the first of a list is its home
-  first-home : (g : ℕ) (us vs : List ℕ) (r : ℕ) → InSet e g → homeList b e g ≡ us ++ (r ∷ vs) → us ≡ [] → r ≡ g
-  first-home g us vs r ig q z = by (homes g) (q ∙ rw z refl) (rows .begins g ig)
-    where
-      by : (xs : List ℕ) → xs ≡ r ∷ vs → (xs ≡ []) ⊎ (headOr 0 xs ≡ g) → r ≡ g
-      by xs p (inl s) = absurd (let z : _≡_ {A = ℕ} 0 1 = cc in omega arith)
-      by xs p (inr s) = rw p at s
-
-  -- ---- a new master takes its home from a stranger, which moves from h to f in its own home's list
-
-  pub displaced : (h f : ℕ) (key : List ℕ) → InSet e h → homeIn e key ≡ h → isLive b e h ≡ true → heldByOwn b e h ≡ false → InSet e f → isLive b e f ≡ false
-      → allBlank key ≡ false → ((m : ℕ) → Live b e m → masterKey b e m ≢ key) → Displaced b c e h f key → MasterSet c e
-  displaced h f key ih hk live away jf free blank none ef =
-      changed-sound b c e some ms (h ∷ f ∷ []) (rootPrior b e h) (rootNext b e h) (ownHome b e h) (at .0) (h ∷ []) (f ∷ []) (at .1) change h h f (λ r i n. n .0)
-      (λ o. new-origin h h f 0 0 key (ef .new) blank none, (λ o. inr (h, (ih, live), ef .moved .key, inr (refl, refl)), tt))
-      (λ x ne. ⊎-elim (λ q. inl (h ∷ [], λ i. rw q lone)) (λ d. inr (λ o. d (mine x o), (λ o. ne (its x o), tt))) (same? x h))
-    where
-      at : Place h
-      at = place-in-list b e homes some rows h (ih, live)
-
-      stranger : ownHome b e h ≢ h
-      stranger q = never-both _ (and-eq-true-iff (isLive b e h) (eqb (ownHome b e h) h) .1 (live, eq-eqb _ _ q)) away
-
-      mine : (x : ℕ) → OfHome c e x h → x ≡ h
-      mine x o = home-of h x 0 0 key (ef .new) o ∙ hk
-
-      its : (x : ℕ) → OfHome c e x f → x ≡ ownHome b e h
-      its x o = home-of f x (rootNext b e h) (rootPrior b e h) (masterKey b e h) (ef .moved) o
-
-      change : Changed b c e (h ∷ f ∷ []) (rootPrior b e h) (rootNext b e h) (ownHome b e h) (at .0) (h ∷ []) (f ∷ []) (at .1)
-      change = record {
-        live-else = λ a i n. ef .live-else a i (n .0) (n .1 .0);
-        key-else = λ a i n. ef .key-else a i (n .0) (n .1 .0);
-        next-else = λ a i n z. ef .next-else a i (n .0) (n .1 .0) z;
-        prior-else = λ a i n z. ef .prior-else a i (n .0) (n .1 .0) z;
-        home = home-in h;
-        list = at .2;
-        before = at .3;
-        behind = at .4;
-        old = (inl refl, tt);
-        each = (inl (inl refl), (inr free, tt));
-        middle = (ef .moved .prior, ef .moved .next, tt);
-        next = λ o. ef .prior-follows;
-        prior = λ o. ef .next-follows (λ z. omega arith);
-        begins = λ q. absurd (stranger (sym (first-home (ownHome b e h) (at .0) (at .1) h (home-in h) (at .2) q)));
-        new = (((jf, ef .moved .live), ap (homeIn e) (ef .moved .key)), tt);
-        full = (λ o. absurd (stranger (mine (ownHome b e h) o)), (λ o. inl refl, tt));
-      }
-
-      -- the new master's home had none: it has only that one
-      lone : HomeRow c e h (h ∷ [])
-      lone = record {
-        chain = (refl, ef .new .prior, ef .new .next);
-        begins = inr refl;
-        only = (((ih, ef .new .live), rw (ef .new .key) hk), tt);
-        full = none-else b c e some ms (h ∷ f ∷ []) (rootPrior b e h) (rootNext b e h) (ownHome b e h) (at .0) (h ∷ []) (f ∷ []) (at .1) change h
-            (none-list b e homes some rows h ih away) (h ∷ []) (λ o. inl refl, (λ o. absurd (stranger (sym (its h o))), tt));
-      }
-
-  -- ---- a master is deleted: its first synonym moves into the home, or it is unlinked
-
-  -- behind a master at its home stands its first synonym
-  second : (h : ℕ) → Live b e h → ownHome b e h ≡ h → rootNext b e h ≢ 0
-      → (vs : List ℕ) × (homes h ≡ h ∷ rootNext b e h ∷ vs) × (rootNext b e (rootNext b e h) ≡ headOr 0 vs)
-  second h live own more =
-      let t = held-list b e homes some rows h (live .0) (and-eq-true-iff (isLive b e h) (eqb (ownHome b e h) h) .1 (live .1, eq-eqb _ _ own)) in
-      by (t .0) (t .1) (linked-chained (rootNext b e) (rootPrior b e) 0 (headOr 0 (h ∷ t .0)) (h ∷ t .0) (rw (t .1) at (rows .chain h (live .0))) .1)
-    where
-      by : (xs : List ℕ) → homes h ≡ h ∷ xs → Chained (rootNext b e) (rootPrior b e) 0 (h ∷ xs) 0
-          → (vs : List ℕ) × (homes h ≡ h ∷ rootNext b e h ∷ vs) × (rootNext b e (rootNext b e h) ≡ headOr 0 vs)
-      by [] q k = absurd (more (k .1))
-      by (x ∷ xs) q k = (xs, rw (k .1) q, rw (k .1) (k .2 .1))
-
-  pub promoted : (h : ℕ) → Live b e h → ownHome b e h ≡ h → rootNext b e h ≢ 0 → Promoted b c e h (rootNext b e h) → MasterSet c e
-  promoted h live own more ef =
-      changed-sound b c e some ms (h ∷ rootNext b e h ∷ []) 0 (rootNext b e (rootNext b e h)) h [] (h ∷ rootNext b e h ∷ []) (h ∷ []) (at .0) change
-      0 (rootNext b e h) h (λ r i n. n .1 .0) (λ o. inr (rootNext b e h, s .0, ef .moved .key, inr (refl, refl)), (λ l. absurd (dead l), tt))
-      (λ x ne. inr (λ o. ne (home-of h x (rootNext b e (rootNext b e h)) 0 (masterKey b e (rootNext b e h)) (ef .moved) o ∙ s .1), (λ o. dead (o .0), tt)))
-    where
-      at : (vs : List ℕ) × (homes h ≡ h ∷ rootNext b e h ∷ vs) × (rootNext b e (rootNext b e h) ≡ headOr 0 vs)
-      at = second h live own more
+      at : Second b e h
+      at = second b e some ms h (live .0) (own-holds b e h (live .1) own) more
 
       s : OfHome b e h (rootNext b e h)
-      s = all-in (OfHome b e h) (rootNext b e h) (homes h) (rows .only h (live .0)) (rw (at .1) (inr (inl refl)))
+      s = all-in (OfHome b e h) (rootNext b e h) (homeList b e h) (rows-of b e some ms .row h (live .0) .only) (rw (at .1) (inr (inl refl)))
 
       dead : Live c e (rootNext b e h) → ⊥
-      dead l = never-both _ (l .1) (ef .gone)
+      dead l = never-both _ (l .1) gone
 
       change : Changed b c e (h ∷ rootNext b e h ∷ []) 0 (rootNext b e (rootNext b e h)) h [] (h ∷ rootNext b e h ∷ []) (h ∷ []) (at .0)
       change = record {
-        live-else = λ a i n. ef .live-else a i (n .0) (n .1 .0);
-        key-else = λ a i n. ef .key-else a i (n .0) (n .1 .0);
-        next-else = λ a i n z. ef .next-else a i (n .0) (n .1 .0);
-        prior-else = λ a i n z. ef .prior-else a i (n .0) (n .1 .0) z;
+        kept = k;
         home = live .0;
         list = at .1;
         before = refl;
         behind = at .2;
         old = (inl refl, (inr (inl refl), tt));
         each = (inl (inl refl), (inl (inr (inl refl)), tt));
-        middle = (ef .moved .prior, ef .moved .next, tt);
-        next = λ o. absurd (omega arith);
-        prior = λ o. ef .next-follows (λ z. omega arith);
-        begins = λ q. inr refl;
-        new = (((live .0, ef .moved .live), rw (ef .moved .key) (s .1)), tt);
+        middle = (moved .prior, moved .next, tt);
+        begins = λ z. inr refl;
+        new = (((live .0, moved .live), ap (homeIn e) (moved .key) ∙ s .1), tt);
         full = (λ o. inl refl, (λ o. absurd (dead (o .0)), tt));
       }
 
-  pub unlinked : (r : ℕ) → Live b e r → ((r ≡ ownHome b e r) → rootNext b e r ≡ 0) → Unlinked b c e r → MasterSet c e
-  unlinked r live alone ef =
-      changed-sound b c e some ms (r ∷ []) (rootPrior b e r) (rootNext b e r) (ownHome b e r) (at .0) (r ∷ []) [] (at .1) change 0 0 0 (λ r i n. omega arith)
+  -- elsewhere, or with no synonym: its neighbours become each other's
+  pub unlinked : (r : ℕ) → Live b e r → (r ≡ ownHome b e r → rootNext b e r ≡ 0) → isLive c e r ≡ false
+      → Kept b c e (r ∷ []) (rootPrior b e r) (rootNext b e r) [] → MasterSet c e
+  unlinked r live alone gone k =
+      changed-sound b c e some ms (r ∷ []) (rootPrior b e r) (rootNext b e r) (ownHome b e r) (at .0) (r ∷ []) [] (at .1) change 0 (λ o. o) (λ r f. refl)
       (λ l. absurd (dead l), tt) (λ x ne. inr (λ o. dead (o .0), tt))
     where
-      at : Place r
-      at = place-in-list b e homes some rows r live
+      at : Place b e (homeList b e (ownHome b e r)) r
+      at = place-in-list b e some ms r live
 
       dead : Live c e r → ⊥
-      dead l = never-both _ (l .1) (ef .gone)
-
-      -- no record stands behind one at its home
-      nothing : (vs : List ℕ) → All (OfHome b e (ownHome b e r)) vs → headOr 0 vs ≡ 0 → vs ≡ []
-      nothing [] o z = refl
-      nothing (v ∷ vs) o z = absurd (omega arith)
-
-      only : All (OfHome b e (ownHome b e r)) (r ∷ at .1)
-      only = all-right (OfHome b e (ownHome b e r)) (at .0) (r ∷ at .1) (rw (at .2) at (rows .only (ownHome b e r) (home-in r)))
+      dead l = never-both _ (l .1) gone
 
       change : Changed b c e (r ∷ []) (rootPrior b e r) (rootNext b e r) (ownHome b e r) (at .0) (r ∷ []) [] (at .1)
       change = record {
-        live-else = λ a i n. ef .live-else a i (n .0);
-        key-else = λ a i n. ef .key-else a i (n .0);
-        next-else = λ a i n z. ef .next-else a i (n .0) z;
-        prior-else = λ a i n z. ef .prior-else a i (n .0) z;
-        home = home-in r;
+        kept = k;
+        home = home-in-set e (masterKey b e r) some;
         list = at .2;
         before = at .3;
         behind = at .4;
         old = (inl refl, tt);
         each = (inl (inl refl), tt);
         middle = tt;
-        next = λ o. ef .prior-follows (λ z. omega arith);
-        prior = λ o. ef .next-follows (λ z. omega arith);
-        begins = λ q. inl (nothing (at .1) (only .1) (sym (at .4) ∙ alone (first-home (ownHome b e r) (at .0) (at .1) r (home-in r) (at .2) q)));
+        -- no record stands behind one at its home
+        begins = λ z.
+            let zeros = rw (at .2) at (no-zeros b e (ownHome b e r) (homeList b e (ownHome b e r)) (own-row b e some ms r)) in
+            inl (none-first (at .1) (all-right (λ x. 1 ≤ x) (at .0) (r ∷ at .1) zeros .1) (sym (at .4) ∙ alone (first-home b e some ms r live z)));
         new = tt;
         full = (λ o. absurd (dead (o .0)), tt);
       }

@@ -1,69 +1,59 @@
 -- A sound set of masters finds its keys: a live master by its key, and a key that no live master has is missing; the search meets no damage.
 -- The home of such a key is not held by its own, or the home's chain is searched to its end.
 use Prim.Native.Nat.{ℕ, zero, suc, _≤_}
-use mathlib.Core.Path.{_≡_, refl}
+use mathlib.Core.Path.{_≡_, refl, sym, _∙_}
 use mathlib.Core.Logic.{_≢_, _⊎_, inl, inr, ⊎-elim}
-use mathlib.Core.Bool.{Bool, true, false, cond}
+use mathlib.Core.Bool.{Bool, true, false}
 use mathlib.Core.List.{List, [], _∷_}
 use native.Mathlib.Omega.{arith}
 use lib.ListN.{length}
 use borrow.Author.Tests.{eq-eqb, ne-eqb}
 use Rattle.octets.specs.BelowLaws.{never-both}
 use Rattle.octets.specs.RunLaws.{ne-sameBytes}
-use Rattle.terms.specs.Laws.{home-in-set}
 use Rattle.schema.specs.declared.Entry.{Entry}
-use Rattle.schema.specs.Place.{InSet}
 use Rattle.records.specs.Records.{rootNext, rootPrior, masterKey}
 use Rattle.masters.specs.declared.Found.the-variants.{At, Missing}
 use Rattle.masters.specs.Find.{homeIn, heldByOwn, seek, find, isAt, isMissing, isDamaged, recordFound}
+use Rattle.masters.specs.WalkLaws.{home-in-set, find-not-held, find-held}
 use Rattle.chains.specs.Members.{All, all-map}
 use Rattle.sound.specs.Sound.{homeList, hasMaster}
-use Rattle.sound.specs.SoundLaws.{Linked}
 use Rattle.sound.specs.ListLaws.{in-set-test}
 use Rattle.sound.specs.KeyLaws.{Live, MasterSet}
 use Rattle.sound.specs.HomeLaws.{OfHome}
 use Rattle.sound.specs.MasterLaws.{sound-placed}
 use Rattle.sound.specs.PathLaws.{hasMaster-says, hasMaster-holds}
-use Rattle.housing.specs.RowLaws.{rows-of, held-list, homes-short}
+use Rattle.housing.specs.LinkedLists.{Chained}
+use Rattle.housing.specs.RowLaws.{held-list, row-short, rows-of}
 
 -- along a chain of live records of other keys the search comes to the end
-seek-none : (n : ℕ) (b : List ℕ) (e : Entry) (key : List ℕ) (p head q : ℕ) (rs : List ℕ) → Linked (rootNext b e) (rootPrior b e) p head (q ∷ rs)
-    → All (λ r. Live b e r × (masterKey b e r ≢ key)) (q ∷ rs) → length (q ∷ rs) ≤ n → seek n b e key head ≡ Missing
+seek-none : (n : ℕ) (b : List ℕ) (e : Entry) (key : List ℕ) (p q : ℕ) (rs : List ℕ) → Chained (rootNext b e) (rootPrior b e) p (q ∷ rs) 0
+    → All (λ r. Live b e r × (masterKey b e r ≢ key)) (q ∷ rs) → length (q ∷ rs) ≤ n → seek n b e key q ≡ Missing
 unfolding seek
-seek-none zero b e key p head q rs h l s = absurd (omega arith)
-seek-none (suc n) b e key p head q [] h l s =
-    rw (h .0, in-set-test e q (l .0 .0 .0), l .0 .0 .1, ne-sameBytes _ key (l .0 .1), eq-eqb (rootNext b e q) 0 (h .2)) refl
-seek-none (suc n) b e key p head q (r ∷ rs) h l s =
-    let z : rootNext b e q ≢ 0 = λ t. omega (arith, h .2 .0) in
-    rw (h .0, in-set-test e q (l .0 .0 .0), l .0 .0 .1, ne-sameBytes _ key (l .0 .1), ne-eqb (rootNext b e q) 0 z)
-    (seek-none n b e key q (rootNext b e q) r rs (h .2) (l .1) (omega arith))
-
--- a search that ends with no record, from a home that its own hold
-find-from : (b : List ℕ) (e : Entry) (key : List ℕ) → (heldByOwn b e (homeIn e key) ≡ true → seek (e .records) b e key (homeIn e key) ≡ Missing) → find b e key ≡ Missing
-unfolding find
-find-from b e key f = by (heldByOwn b e (homeIn e key)) refl
-  where
-    by : (t : Bool) → heldByOwn b e (homeIn e key) ≡ t → cond t (seek (e .records) b e key (homeIn e key)) Missing ≡ Missing
-    by true t = f t
-    by false t = refl
+seek-none zero b e key p q rs c l s = absurd (omega arith)
+seek-none (suc n) b e key p q [] c l s =
+    rw (in-set-test e q (l .0 .0 .0), l .0 .0 .1, ne-sameBytes _ key (l .0 .1), eq-eqb (rootNext b e q) 0 (c .1)) refl
+seek-none (suc n) b e key p q (r ∷ rs) c l s =
+    let z : r ≢ 0 = λ t. omega arith in
+    rw (in-set-test e q (l .0 .0 .0), l .0 .0 .1, ne-sameBytes _ key (l .0 .1), c .1, ne-eqb r 0 z)
+    (seek-none n b e key q r rs (c .2) (l .1) (omega arith))
 
 module _ (b : List ℕ) (e : Entry) (some : 1 ≤ e .records) (ms : MasterSet b e) where
   pub find-live : (m : ℕ) (key : List ℕ) → Live b e m → masterKey b e m ≡ key → find b e key ≡ At (record { 0 = m })
   find-live m key l k = rw k at (sound-placed b e some ms m l .found)
 
   pub find-none : (key : List ℕ) → ((m : ℕ) → Live b e m → masterKey b e m ≢ key) → find b e key ≡ Missing
-  find-none key f = find-from b e key along
+  find-none key f = by (heldByOwn b e (homeIn e key)) refl
     where
-      home : InSet e (homeIn e key)
-      home = home-in-set (e .records) key some
-
-      along : heldByOwn b e (homeIn e key) ≡ true → seek (e .records) b e key (homeIn e key) ≡ Missing
-      along t =
+      by : (t : Bool) → heldByOwn b e (homeIn e key) ≡ t → find b e key ≡ Missing
+      by true t =
           let h : ℕ = homeIn e key in
-          let hs = rows-of b e some ms in
-          let w = held-list b e (homeList b e) some hs h home t in
-          let a = all-map (OfHome b e h) (λ r. Live b e r × (masterKey b e r ≢ key)) (λ r o. (o .0, f r (o .0))) (homeList b e h) (hs .only h home) in
-          seek-none (e .records) b e key 0 h h (w .0) (rw (w .1) at (hs .chain h home)) (rw (w .1) at a) (rw (w .1) at (homes-short b e (homeList b e) some hs h home))
+          let i = home-in-set e key some in
+          let row = rows-of b e some ms .row h i in
+          let w = held-list b e h (homeList b e h) row i t in
+          let a = all-map (OfHome b e h) (λ r. Live b e r × (masterKey b e r ≢ key)) (λ r o. (o .0, f r (o .0))) (homeList b e h) (row .only) in
+          sym (find-held b e key t)
+          ∙ seek-none (e .records) b e key 0 h (w .0) (rw (w .1) at (row .chain)) (rw (w .1) at a) (rw (w .1) at (row-short b e h (homeList b e h) row))
+      by false t = sym (find-not-held b e key t)
 
   -- so the search tells whether a live master has the key
   pub found-or-not : (key : List ℕ) → ((m : ℕ) × Live b e m × (masterKey b e m ≡ key)) ⊎ ((m : ℕ) → Live b e m → masterKey b e m ≢ key)

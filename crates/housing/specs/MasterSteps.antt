@@ -1,57 +1,86 @@
 -- ADD-M, DEL-M and WRITM keep the state: the set of masters is sound afterwards, its masters are those of before (but for one that came or went
--- without points), every check is true, every record is clean, and everything outside the set is as it was.
-use Prim.Native.Nat.{ℕ, _<_}
+-- without points), every check is true, every record is clean, and everything outside the set is as it was: the records of other sets have the
+-- bytes that they had, and so the other masters, the heads of paths to them, the points of every path, and the areas of the variable sets.
+use Prim.Native.Nat.{ℕ, zero, suc, _+_, _≤_, _<_}
 use mathlib.Core.Path.{_≡_, refl, sym, _∙_}
-use mathlib.Core.Logic.{_≢_, _⊎_, inl, inr}
+use mathlib.Core.Logic.{_≢_, ⊎-elim}
 use mathlib.Core.Bool.{true, false}
 use mathlib.Core.List.{List, [], _∷_}
 use native.Mathlib.Omega.{arith}
+use lib.ListN.{drop}
 use Rattle.octets.specs.Octets.{allZero}
 use Rattle.octets.specs.SpliceLaws.{length-run}
-use Rattle.octets.specs.BelowLaws.{never-both, same?}
+use Rattle.octets.specs.BelowLaws.{same?}
 use Rattle.schema.specs.declared.Schema.{Schema}
-use Rattle.schema.specs.Decode.{entryOf, pathOf, setCount}
+use Rattle.schema.specs.Decode.{entryOf, pathOf, pathsOf, setCount}
 use Rattle.schema.specs.Place.{InSet, recordOf}
 use Rattle.schema.specs.Guarantee.{IsPathOf}
 use Rattle.records.specs.Records.{isLive, masterKey}
-use Rattle.records.specs.Address.{root-next, root-prior, own-key, key, prior, next, first, last}
-use Rattle.records.specs.Areas.{areaKeys, areaBody}
+use Rattle.records.specs.Address.{Field, root-next, root-prior, own-key, body, key, prior, next, first, last, sizeOf, HasField, getRun, getWord}
+use Rattle.records.specs.AddressLaws.{address}
+use Rattle.records.specs.KindLaws.{is-variable}
+use Rattle.records.specs.Areas.{keysOn, areaOf, areaKeys, areaBody}
+use Rattle.areas.specs.AreaLaws.{paths-step, paths-done}
 use Rattle.plans.specs.Plan.{Store, storeRun, blocksSealed, committed}
 use Rattle.masters.specs.Find.{find, homeIn, recordFound, isAt}
 use Rattle.masters.specs.Root.{addMasterStores, delMasterStores}
 use Rattle.sound.specs.Sound.{setClean}
 use Rattle.sound.specs.KeyLaws.{Live}
-use Rattle.keeping.specs.Deeds.{Deed, after, AllSpared}
+use Rattle.keeping.specs.Deeds.{Deed, after}
 use Rattle.keeping.specs.Frames.{SameMasters, SameHeads, SamePoints}
 use Rattle.keeping.specs.Rows.{World, Represents}
 use Rattle.keeping.specs.Tests.{AddMasterTests, DelMasterTests, WriteMasterTests}
-use Rattle.housing.specs.MasterStep.{MasterStep}
-use Rattle.housing.specs.OtherSets.{same-live, same-run, same-word, same-area}
-use Rattle.housing.specs.MasterDeeds.{Known, counted, some, AllProper, proper-valid, proper-zeroed, proper-off, proper-free}
-use Rattle.housing.specs.MasterReads.{kept-live}
-use Rattle.housing.specs.CallDeeds.{CallDeeds}
+use Rattle.keeping.specs.DeedLaws.{record-missed, length-after}
+use Rattle.keeping.specs.SettleLaws.{free-zero, storable, sealed-after, clean-after}
+use Rattle.housing.specs.FindLaws.{find-at}
+use Rattle.housing.specs.CallDeeds.{Known, Within, some, CallDeeds, write-deeds}
+use Rattle.housing.specs.Images.{live-is, run-is, word-is}
 use Rattle.housing.specs.AddStores.{add-deeds}
 use Rattle.housing.specs.DelStores.{del-deeds}
-use Rattle.housing.specs.WriteStores.{write-deeds}
-use Rattle.keeping.specs.DeedLaws.{record-missed, length-after}
-use Rattle.keeping.specs.SettleLaws.{storable, sealed-after, clean-after, free-zero}
-use Rattle.housing.specs.FindLaws.{find-at}
+use Rattle.housing.specs.MasterStep.{MasterStep}
 
--- ---- from the deeds
+module _ {t : Schema} (w : World t) {b : List ℕ} {n : ℕ} (known : Known t b n) {ts : List ℕ} {ds : List Deed} (within : Within t b n ts ds) where
+  -- ---- a record of another set
 
-module _ {t : Schema} (w : World t) {b : List ℕ} {n : ℕ} (known : Known t b n) (ds : List Deed) (pr : AllProper t b n ds) where
-  -- a record of another set
-  other-same : (k r : ℕ) → k < setCount t → k ≢ n → InSet (entryOf t k) r → recordOf (after t b ds) (entryOf t k) r ≡ recordOf b (entryOf t k) r
-  other-same k r l d i = record-missed (w .ok) b (known .sized) ds k r (proper-valid t b n (known .set) ds pr) l i (proper-off t b n k r d ds pr)
+  module _ (k : ℕ) (l : k < setCount t) (d : k ≢ n) (r : ℕ) (i : InSet (entryOf t k) r) where
+    same : recordOf (after t b ds) (entryOf t k) r ≡ recordOf b (entryOf t k) r
+    same = record-missed (w .ok) b (known .sized) ds k r (within .valid) l i (within .off k r (λ z. absurd (d z)))
+
+    same-live : isLive (after t b ds) (entryOf t k) r ≡ isLive b (entryOf t k) r
+    same-live = live-is (w .ok) (after t b ds) k r _ l same ∙ sym (live-is (w .ok) b k r _ l refl)
+
+    same-run : (f : Field) → HasField t k f → getRun t (after t b ds) (address k r f) ≡ getRun t b (address k r f)
+    same-run f h = run-is (w .ok) (after t b ds) k r _ l same f h ∙ sym (run-is (w .ok) b k r _ l refl f h)
+
+    same-word : (f : Field) → HasField t k f → sizeOf t (entryOf t k) f ≡ 4 → getWord t (after t b ds) (address k r f) ≡ getWord t b (address k r f)
+    same-word f h s = word-is (w .ok) (after t b ds) k r _ l same f h s ∙ sym (word-is (w .ok) b k r _ l refl f h s)
+
+    -- a free one is empty
+    other-empty : setClean b (entryOf t k) ≡ true → isLive (after t b ds) (entryOf t k) r ≡ false → allZero (recordOf (after t b ds) (entryOf t k) r) ≡ true
+    other-empty clean dead = rw same (free-zero (w .ok) b (known .sized) k r l i clean (sym same-live ∙ dead))
+
+    -- its area is made of its keys and its D bytes
+    same-keys : t .masters ≤ k → (m j : ℕ) → j + m ≡ entryOf t k .count
+        → keysOn (after t b ds) (entryOf t k) r (drop j (pathsOf (entryOf t k))) ≡ keysOn b (entryOf t k) r (drop j (pathsOf (entryOf t k)))
+    unfolding keysOn
+    same-keys v zero j h = rw (paths-done (entryOf t k) (w .fields k l) j (omega arith)) refl
+    same-keys v (suc m) j h =
+        rw (paths-step (entryOf t k) (w .fields k l) j (omega arith), same-run (key j) (v, l, omega arith), same-keys v m (j + 1) (omega arith)) refl
+
+    other-area : t .masters ≤ k → areaOf (after t b ds) (entryOf t k) r ≡ areaOf b (entryOf t k) r
+    unfolding areaOf
+    other-area v = rw (is-variable t (w .ok) k v l, same-keys v (entryOf t k .count) 0 (omega arith), same-run body l) refl
+
+  -- ---- masters, heads and points
 
   other-masters : (k : ℕ) → k < t .masters → k ≢ n → SameMasters t b (after t b ds) k
   other-masters k m d =
       let l : k < setCount t = omega arith in
       record {
-        live = λ r i. same-live t w b (after t b ds) k r l (other-same k r l d i);
-        key = λ r i. same-run t w b (after t b ds) k r l (other-same k r l d i) own-key m;
-        next = λ r i. same-word t w b (after t b ds) k r l (other-same k r l d i) root-next m refl;
-        prior = λ r i. same-word t w b (after t b ds) k r l (other-same k r l d i) root-prior m refl;
+        live = λ r i. same-live k l d r i;
+        key = λ r i. same-run k l d r i own-key m;
+        next = λ r i. same-word k l d r i root-next m refl;
+        prior = λ r i. same-word k l d r i root-prior m refl;
       }
 
   other-heads : (i j : ℕ) → IsPathOf t i j → pathOf (entryOf t i) j .master .0 ≢ n → SameHeads t b (after t b ds) i j
@@ -59,43 +88,18 @@ module _ {t : Schema} (w : World t) {b : List ℕ} {n : ℕ} (known : Known t b 
       let k = pathOf (entryOf t i) j .master .0 in
       let m = w .ok .path i j p .master in
       let l : pathOf (entryOf t i) j .master .0 < setCount t = omega arith in
-      record {
-        first = λ r h. same-word t w b (after t b ds) k r l (other-same k r l d h) (first i j) (p, refl) refl;
-        last = λ r h. same-word t w b (after t b ds) k r l (other-same k r l d h) (last i j) (p, refl) refl;
-      }
+      record { first = λ r h. same-word k l d r h (first i j) (p, refl) refl; last = λ r h. same-word k l d r h (last i j) (p, refl) refl }
 
   other-points : (i j : ℕ) → IsPathOf t i j → SamePoints t b (after t b ds) i j
   other-points i j p =
       let m = known .set in
       let d : i ≢ n = λ z. omega arith in
       record {
-        live = λ r h. same-live t w b (after t b ds) i r (p .1) (other-same i r (p .1) d h);
-        key = λ r h. same-run t w b (after t b ds) i r (p .1) (other-same i r (p .1) d h) (key j) p;
-        prior = λ r h. same-word t w b (after t b ds) i r (p .1) (other-same i r (p .1) d h) (prior j) p refl;
-        next = λ r h. same-word t w b (after t b ds) i r (p .1) (other-same i r (p .1) d h) (next j) p refl;
+        live = λ r h. same-live i (p .1) d r h;
+        key = λ r h. same-run i (p .1) d r h (key j) p;
+        prior = λ r h. same-word i (p .1) d r h (prior j) p refl;
+        next = λ r h. same-word i (p .1) d r h (next j) p refl;
       }
-
-  -- a free record is empty
-  empty : ((k : ℕ) → k < setCount t → setClean b (entryOf t k) ≡ true)
-      → ((r : ℕ) → InSet (entryOf t n) r → AllSpared n r ds ⊎ (isLive (after t b ds) (entryOf t n) r ≡ true) ⊎ (allZero (recordOf (after t b ds) (entryOf t n) r) ≡ true))
-      → (k r : ℕ) → k < setCount t → InSet (entryOf t k) r → isLive (after t b ds) (entryOf t k) r ≡ false → allZero (recordOf (after t b ds) (entryOf t k) r) ≡ true
-  empty clean settled k r l i dead = by (same? k n)
-    where
-      own : InSet (entryOf t n) r → isLive (after t b ds) (entryOf t n) r ≡ false
-          → AllSpared n r ds ⊎ (isLive (after t b ds) (entryOf t n) r ≡ true) ⊎ (allZero (recordOf (after t b ds) (entryOf t n) r) ≡ true)
-          → allZero (recordOf (after t b ds) (entryOf t n) r) ≡ true
-      own h f (inl s) =
-          let was = sym (kept-live known ds pr r h s) ∙ f in
-          rw (record-missed (w .ok) b (known .sized) ds n r (proper-valid t b n (known .set) ds pr) (counted known) h (proper-free t b n r was ds pr s))
-          (free-zero (w .ok) b (known .sized) n r (counted known) h (known .clean) was)
-      own h f (inr (inl v)) = absurd (never-both _ v f)
-      own h f (inr (inr z)) = z
-
-      by : (k ≡ n) ⊎ (k ≢ n) → allZero (recordOf (after t b ds) (entryOf t k) r) ≡ true
-      by (inl z) = rw z (own (rw z at i) (rw z at dead) (settled r (rw z at i)))
-      by (inr d) =
-          let same = other-same k r l d i in
-          rw same (free-zero (w .ok) b (known .sized) k r l i (clean k l) (sym (same-live t w b (after t b ds) k r l same) ∙ dead))
 
 -- ---- the calls
 
@@ -105,22 +109,21 @@ module _ (t : Schema) (w : World t) (b : List ℕ) (rows : ℕ → ℕ → List 
 
   step : (xs : List Store) → n < t .masters → CallDeeds t b n xs → MasterStep t b (committed b xs) n
   step xs m d =
-      let valid = proper-valid t b n m (d .deeds) (d .proper) in
       rw (d .are) (record {
         sized = length-after (w .ok) b (g .sized) (d .deeds) ∙ g .sized;
-        sealed = sealed-after (w .ok) b (g .sized) (d .deeds) valid (g .sealed);
-        clean = clean-after (w .ok) b (g .sized) (d .deeds) valid (proper-zeroed t b n (d .deeds) (d .proper)) (g .clean)
-            (empty w (knows m) (d .deeds) (d .proper) (g .clean) (d .settled));
+        sealed = sealed-after (w .ok) b (g .sized) (d .deeds) (d .within .valid) (g .sealed);
+        clean = clean-after (w .ok) b (g .sized) (d .deeds) (d .within .valid) (d .within .zeroed) (g .clean)
+            (λ k r l i dead. ⊎-elim (λ z. rw z (d .empty r (rw z at i) (rw z at dead))) (λ o. other-empty w (knows m) (d .within) k l o r i (g .clean k l) dead) (same? k n));
         masters = d .masters;
-        others = other-masters w (knows m) (d .deeds) (d .proper);
+        others = other-masters w (knows m) (d .within);
         moved = d .moved;
-        heads = other-heads w (knows m) (d .deeds) (d .proper);
-        points = other-points w (knows m) (d .deeds) (d .proper);
-        areas = λ i r a l h. same-area t w b (after t b (d .deeds)) i r l (other-same w (knows m) (d .deeds) (d .proper) i r l (λ z. omega arith) h);
+        heads = other-heads w (knows m) (d .within);
+        points = other-points w (knows m) (d .within);
+        areas = λ i r a l h. other-area w (knows m) (d .within) i l (λ z. omega arith) r h a;
       })
 
-  fits : (xs : List Store) → n < t .masters → CallDeeds t b n xs → blocksSealed b xs ≡ true
-  fits xs m d = rw (d .are) (storable (w .ok) b (g .sized) (d .deeds) (proper-valid t b n m (d .deeds) (d .proper)) (g .sealed))
+  fits : (xs : List Store) → CallDeeds t b n xs → blocksSealed b xs ≡ true
+  fits xs d = rw (d .are) (storable (w .ok) b (g .sized) (d .deeds) (d .within .valid) (g .sealed))
 
   -- the master that was found
   found : (sought : List ℕ) → n < t .masters → isAt (find b (entryOf t n) sought) ≡ true
@@ -132,10 +135,10 @@ module _ (t : Schema) (w : World t) (b : List ℕ) (rows : ℕ → ℕ → List 
   add-master-step sought area tests = step _ (tests .set) (add-deeds (knows (tests .set)) tests)
 
   pub add-master-storable : (key area : List ℕ) → AddMasterTests t b n key area → blocksSealed b (addMasterStores b (entryOf t n) (homeIn (entryOf t n) key) area) ≡ true
-  add-master-storable sought area tests = fits _ (tests .set) (add-deeds (knows (tests .set)) tests)
+  add-master-storable sought area tests = fits _ (add-deeds (knows (tests .set)) tests)
 
-  deleted : (sought : List ℕ) → DelMasterTests t b n sought
-      → CallDeeds t b n (delMasterStores b (entryOf t n) (homeIn (entryOf t n) sought) (recordFound (find b (entryOf t n) sought)))
+  deleted : (key : List ℕ) → DelMasterTests t b n key
+      → CallDeeds t b n (delMasterStores b (entryOf t n) (homeIn (entryOf t n) key) (recordFound (find b (entryOf t n) key)))
   deleted sought tests =
       let f = found sought (tests .set) (tests .found) in
       rw (f .1) at (del-deeds (knows (tests .set)) (recordFound (find b (entryOf t n) sought)) (f .0) (tests .no-points))
@@ -146,10 +149,10 @@ module _ (t : Schema) (w : World t) (b : List ℕ) (rows : ℕ → ℕ → List 
 
   pub del-master-storable : (key : List ℕ) → DelMasterTests t b n key
       → blocksSealed b (delMasterStores b (entryOf t n) (homeIn (entryOf t n) key) (recordFound (find b (entryOf t n) key))) ≡ true
-  del-master-storable sought tests = fits _ (tests .set) (deleted sought tests)
+  del-master-storable sought tests = fits _ (deleted sought tests)
 
-  written : (sought area : List ℕ) → WriteMasterTests t b n sought area
-      → CallDeeds t b n (storeRun (entryOf t n) (recordFound (find b (entryOf t n) sought)) (entryOf t n .body) (areaBody (entryOf t n) area) ∷ [])
+  written : (key area : List ℕ) → WriteMasterTests t b n key area
+      → CallDeeds t b n (storeRun (entryOf t n) (recordFound (find b (entryOf t n) key)) (entryOf t n .body) (areaBody (entryOf t n) area) ∷ [])
   written sought area tests =
       write-deeds (knows (tests .set)) (recordFound (find b (entryOf t n) sought)) (areaBody (entryOf t n) area) (found sought (tests .set) (tests .found) .0)
       (length-run area (areaKeys (entryOf t n)) (entryOf t n .room) (omega (arith, tests .area-length)))
@@ -160,4 +163,4 @@ module _ (t : Schema) (w : World t) (b : List ℕ) (rows : ℕ → ℕ → List 
 
   pub write-master-storable : (key area : List ℕ) → WriteMasterTests t b n key area
       → blocksSealed b (storeRun (entryOf t n) (recordFound (find b (entryOf t n) key)) (entryOf t n .body) (areaBody (entryOf t n) area) ∷ []) ≡ true
-  write-master-storable sought area tests = fits _ (tests .set) (written sought area tests)
+  write-master-storable sought area tests = fits _ (written sought area tests)

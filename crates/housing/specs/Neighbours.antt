@@ -1,86 +1,95 @@
--- The ROOT neighbours of a master in a sound set: each is 0 or a live master, and another one than the master itself.
+-- The ROOT neighbours of a master in a sound set: each is 0 or a live master, and another one than the master itself; only a master at its home
+-- has no prior. And of a home that its own masters hold: the last of its list is live, and behind its first synonym does not stand the home again.
 use Prim.Native.Nat.{ℕ, _≤_}
-use mathlib.Core.Path.{_≡_, refl}
-use mathlib.Core.Logic.{_≢_, _⊎_, inl, inr}
-use mathlib.Core.Bool.{true, and-eq-true-iff}
+use mathlib.Core.Path.{_≡_, refl, sym, _∙_}
+use mathlib.Core.Logic.{_≢_, _⊎_, inl, inr, ⊎-elim}
+use mathlib.Core.Bool.{true, false}
 use mathlib.Core.List.{List, [], _∷_, _++_}
 use native.Mathlib.Omega.{arith}
-use lib.Dec.{eqb}
-use borrow.Author.Tests.{eq-eqb}
-use Rattle.octets.specs.BelowLaws.{same?}
-use Rattle.terms.specs.Laws.{home-in-set}
+use Rattle.octets.specs.BelowLaws.{never-both}
 use Rattle.schema.specs.declared.Entry.{Entry}
 use Rattle.schema.specs.Place.{InSet}
-use Rattle.records.specs.Records.{isLive, rootNext, rootPrior, masterKey}
+use Rattle.records.specs.Records.{isLive, rootNext, rootPrior}
 use Rattle.masters.specs.Find.{ownHome, heldByOwn, tailFrom}
-use Rattle.chains.specs.Members.{All, all-left, all-right, Fresh, nodup-without}
-use Rattle.chains.specs.Segments.{all-last, all-head}
+use Rattle.chains.specs.Members.{All, all-map, all-both, all-left, all-right, all-without, nodup-without}
+use Rattle.chains.specs.Segments.{lastOr, headOr, all-last, all-head}
 use Rattle.sound.specs.Sound.{homeList}
-use Rattle.sound.specs.SoundLaws.{Linked}
 use Rattle.sound.specs.KeyLaws.{Live, MasterSet}
 use Rattle.sound.specs.HomeLaws.{OfHome}
-use Rattle.housing.specs.HomeRows.{HomeRows}
-use Rattle.housing.specs.RowLaws.{rows-of, held-list, tail-is, homes-nodup, place-in-list}
+use Rattle.housing.specs.LinkedLists.{Chained}
+use Rattle.housing.specs.RowLaws.{HomeRow, own-holds, held-list, no-zeros, row-nodup, tail-is, rows-of, own-row, place-in-list}
 
--- x is 0 or a live master, and not r
-abbrev pub Aside : List ℕ → Entry → ℕ → ℕ → Type 0
-Aside b e r x = (x ≢ 0 → Live b e x) × (r ≢ x)
+-- x is 0 or a live master; and it is not r
+abbrev pub Side : List ℕ → Entry → ℕ → Type 0
+Side b e x = (x ≡ 0) ⊎ Live b e x
 
-pub live-small : (b : List ℕ) (e : Entry) (x : ℕ) → (x ≢ 0 → Live b e x) → x ≤ e .records
-live-small b e x h = by (same? x 0)
-  where
-    by : (x ≡ 0) ⊎ (x ≢ 0) → x ≤ e .records
-    by (inl z) = omega arith
-    by (inr d) = h d .0 .1
+abbrev Aside : List ℕ → Entry → ℕ → ℕ → Type 0
+Aside b e r x = Side b e x × (r ≢ x)
 
-asides : (b : List ℕ) (e : Entry) (r h : ℕ) (xs : List ℕ) → All (OfHome b e h) xs → Fresh r xs → All (Aside b e r) xs
-asides b e r h [] o f = tt
-asides b e r h (x ∷ xs) o f = ((λ d. o .0 .0, f .0), asides b e r h xs (o .1) (f .1))
+pub side-small : (b : List ℕ) (e : Entry) (x : ℕ) → Side b e x → x ≤ e .records
+side-small b e x s = ⊎-elim (λ z. omega arith) (λ l. l .0 .1) s
+
+-- a free record is none of them
+pub free-aside : (b : List ℕ) (e : Entry) (f x : ℕ) → InSet e f → isLive b e f ≡ false → Side b e x → f ≢ x
+free-aside b e f x i free s q = ⊎-elim (λ z. omega arith) (λ l. never-both _ (l .1) (rw q at free)) s
+
+-- a live master in a home that its own do not hold is a stranger there
+pub stranger : (b : List ℕ) (e : Entry) (h : ℕ) → isLive b e h ≡ true → heldByOwn b e h ≡ false → h ≢ ownHome b e h
+stranger b e h l t q = never-both _ (own-holds b e h l (sym q)) t
+
+-- behind the home h stands its first synonym; behind that one not the home again
+abbrev pub Second : List ℕ → Entry → ℕ → Type 0
+Second b e h =
+    (vs : List ℕ) × (homeList b e h ≡ h ∷ rootNext b e h ∷ vs) × (rootNext b e (rootNext b e h) ≡ headOr 0 vs) × (h ≢ rootNext b e (rootNext b e h))
 
 module _ (b : List ℕ) (e : Entry) (some : 1 ≤ e .records) (ms : MasterSet b e) where
-  lists : HomeRows b e (homeList b e)
-  lists = rows-of b e some ms
-
   module _ (r : ℕ) (l : Live b e r) where
-    in-home : InSet e (ownHome b e r)
-    in-home = home-in-set (e .records) (masterKey b e r) some
-
-    all-aside : (us vs : List ℕ) → homeList b e (ownHome b e r) ≡ us ++ (r ∷ vs) → All (Aside b e r) us × All (Aside b e r) vs
-    all-aside us vs q =
-        let only : All (OfHome b e (ownHome b e r)) (us ++ (r ∷ vs)) = rw q at (lists .only (ownHome b e r) in-home) in
-        let fresh = nodup-without us r vs (rw q at (homes-nodup b e (homeList b e) some lists (ownHome b e r) in-home)) .1 in (
-          asides b e r (ownHome b e r) us (all-left (OfHome b e (ownHome b e r)) us (r ∷ vs) only) (all-left (λ x. r ≢ x) us vs fresh),
-          asides b e r (ownHome b e r) vs (all-right (OfHome b e (ownHome b e r)) us (r ∷ vs) only .1) (all-right (λ x. r ≢ x) us vs fresh),
+    pub sides : Aside b e r (rootPrior b e r) × Aside b e r (rootNext b e r)
+    sides =
+        let g : ℕ = ownHome b e r in
+        let row = own-row b e some ms r in
+        let p = place-in-list b e some ms r l in
+        let fresh = nodup-without (p .0) r (p .1) (rw (p .2) at (row-nodup b e g (homeList b e g) row)) .1 in
+        let only = all-without (OfHome b e g) (p .0) r (p .1) (rw (p .2) at (row .only)) in
+        let all = all-map (λ x. OfHome b e g x × (r ≢ x)) (Aside b e r) (λ x k. (inr (k .0 .0), k .1)) (p .0 ++ p .1) (all-both (OfHome b e g) (λ x. r ≢ x) (p .0 ++ p .1) only fresh) in
+        let none : Aside b e r 0 = (inl refl, λ z. omega arith) in (
+          rw (p .3) (all-last (Aside b e r) 0 (p .0) none (all-left (Aside b e r) (p .0) (p .1) all)),
+          rw (p .4) (all-head (Aside b e r) 0 (p .1) none (all-right (Aside b e r) (p .0) (p .1) all)),
         )
 
-    none-aside : Aside b e r 0
-    none-aside = (λ d. absurd (d refl), omega arith)
+    -- one that has no prior is at its home
+    pub first-home : rootPrior b e r ≡ 0 → r ≡ ownHome b e r
+    first-home z =
+        let g : ℕ = ownHome b e r in
+        let row = own-row b e some ms r in
+        let p = place-in-list b e some ms r l in
+        by (p .0) (p .1) (sym (p .3) ∙ z) (all-left (λ x. 1 ≤ x) (p .0) (r ∷ p .1) (rw (p .2) at (no-zeros b e g (homeList b e g) row))) (rw (p .2) at (row .begins))
+      where
+        by : (us vs : List ℕ) → lastOr 0 us ≡ 0 → All (λ x. 1 ≤ x) us → ((us ++ (r ∷ vs)) ≡ []) ⊎ (headOr 0 (us ++ (r ∷ vs)) ≡ ownHome b e r) → r ≡ ownHome b e r
+        by [] vs q o (inl s) = absurd (let n : _≡_ {A = ℕ} 0 1 = cc in omega arith)
+        by [] vs q o (inr s) = s
+        by (u ∷ us) vs q o s = absurd (omega (arith, all-last (λ x. 1 ≤ x) u us (o .0) (o .1)))
 
-    pub prior-aside : Aside b e r (rootPrior b e r)
-    prior-aside =
-        let p = place-in-list b e (homeList b e) some lists r l in
-        rw (p .3) (all-last (Aside b e r) 0 (p .0) none-aside (all-aside (p .0) (p .1) (p .2) .0))
+  module _ (h : ℕ) (i : InSet e h) (held : heldByOwn b e h ≡ true) where
+    own : HomeRow b e h (homeList b e h)
+    own = rows-of b e some ms .row h i
 
-    pub next-aside : Aside b e r (rootNext b e r)
-    next-aside =
-        let p = place-in-list b e (homeList b e) some lists r l in
-        rw (p .4) (all-head (Aside b e r) 0 (p .1) none-aside (all-aside (p .0) (p .1) (p .2) .1))
+    -- the last master of a home that its own hold is live
+    pub last-live : (tailFrom (e .records) b e h ≡ lastOr 0 (homeList b e h)) × Live b e (tailFrom (e .records) b e h)
+    last-live =
+        let q = tail-is b e h (homeList b e h) own i held in
+        let p = held-list b e h (homeList b e h) own i held in
+        let only : All (OfHome b e h) (h ∷ p .0) = rw (p .1) at (own .only) in
+        (q, rw (q, p .1) (all-last (OfHome b e h) h (p .0) (only .0) (only .1) .0))
 
-  -- the synonym of a master at its home is not followed by that master
-  pub second-other : (h : ℕ) → Live b e h → ownHome b e h ≡ h → rootNext b e h ≢ 0 → h ≢ rootNext b e (rootNext b e h)
-  second-other h l o d =
-      let held = and-eq-true-iff (isLive b e h) (eqb (ownHome b e h) h) .1 (l .1, eq-eqb _ _ o) in
-      let p = held-list b e (homeList b e) some lists h (l .0) held in
-      go (p .0) (rw (p .1) at (lists .chain h (l .0)) .2) (rw (p .1) at (homes-nodup b e (homeList b e) some lists h (l .0)) .0)
-    where
-      go : (rs : List ℕ) → Linked (rootNext b e) (rootPrior b e) h (rootNext b e h) rs → Fresh h rs → h ≢ rootNext b e (rootNext b e h)
-      go [] k f = absurd (d k)
-      go (s ∷ []) k f = rw (k .0, k .2) (omega arith)
-      go (s ∷ x ∷ ts) k f = rw (k .0, k .2 .0) (f .1 .0)
-
-  -- the last master of a home is live
-  pub tail-live : (h : ℕ) → InSet e h → heldByOwn b e h ≡ true → Live b e (tailFrom (e .records) b e h)
-  tail-live h i held =
-      let p = held-list b e (homeList b e) some lists h i held in
-      let only : All (OfHome b e h) (h ∷ p .0) = rw (p .1) at (lists .only h i) in
-      rw (tail-is b e (homeList b e) some lists h i held, p .1) (all-last (OfHome b e h) h (p .0) (only .0) (only .1) .0)
+    pub second : rootNext b e h ≢ 0 → Second b e h
+    second more =
+        let p = held-list b e h (homeList b e h) own i held in
+        let fresh = rw (p .1) at (row-nodup b e h (homeList b e h) own) .0 in
+        by (p .0) (p .1) (rw (p .1) at (own .chain)) fresh
+      where
+        by : (xs : List ℕ) → homeList b e h ≡ h ∷ xs → Chained (rootNext b e) (rootPrior b e) 0 (h ∷ xs) 0 → All (λ x. h ≢ x) xs → Second b e h
+        by [] q k f = absurd (more (k .1))
+        by (x ∷ xs) q k f =
+            let n : rootNext b e (rootNext b e h) ≡ headOr 0 xs = rw (k .1) (k .2 .1) in
+            (xs, rw (k .1) q, n, rw n (all-head (λ y. h ≢ y) 0 xs (λ z. omega arith) (f .1)))
