@@ -2,14 +2,12 @@
 -- bytes are those of a new master, those of a master of before (ADD-M's stranger), and those with ROOT prior 0 (DEL-M's synonym).
 use Prim.Native.Nat.{ℕ, _+_, _≤_, _<_}
 use mathlib.Core.Path.{_≡_, refl, sym, ap, _∙_}
-use mathlib.Core.Bool.{true, and-eq-true-iff}
 use mathlib.Core.List.{List}
 use native.Mathlib.Omega.{arith}
 use lib.Dec.{eqb}
 use lib.ListN.{length}
 use borrow.Author.Tests.{eqb-true, eq-eqb}
-use Rattle.octets.specs.Octets.{byteAt, run, wordAt, wordBytes, setWord, zeros, allZero}
-use Rattle.octets.specs.Below.{allBelow}
+use Rattle.octets.specs.Octets.{byteAt, run, wordAt, wordBytes, setWord, zeros}
 use Rattle.octets.specs.RunLaws.{allZero-eq}
 use Rattle.octets.specs.SpliceLaws.{length-run, run-splice-out}
 use Rattle.octets.specs.WordLaws.{length-setWord, getD-setWord-out, wordAt-setWord, wordAt-setWord-other}
@@ -28,9 +26,8 @@ use Rattle.records.specs.FillerLaws.{fillerOf-recordOf}
 use Rattle.records.specs.KindLaws.{is-master}
 use Rattle.records.specs.Areas.{areaLength, areaMasterKey, newMaster}
 use Rattle.areas.specs.NewLaws.{length-newMaster, new-master-state, new-master-next, new-master-prior, new-master-key, new-master-link}
-use Rattle.sound.specs.Sound.{eachRecord, recordClean, leftoverClean, blocksHeld, setClean}
-use Rattle.sound.specs.SoundLaws.{eachRecord-at}
 use Rattle.sound.specs.KeyLaws.{Live}
+use Rattle.keeping.specs.SettleLaws.{filler-zero}
 use Rattle.keeping.specs.Deeds.{whole, Valid}
 use Rattle.keeping.specs.Frames.{Carried}
 use Rattle.housing.specs.TouchLaws.{Stands}
@@ -121,12 +118,6 @@ module _ {t : Schema} {b : List ℕ} {n : ℕ} (known : Known t b n) where
   -- ---- the master in record r of before
 
   module _ (r : ℕ) (l : Live b (entryOf t n) r) where
-    filled : allZero (run b (placeOf (entryOf t n) r + 1) 3) ≡ true
-    unfolding setClean recordClean
-    filled =
-        let a = and-eq-true-iff (eachRecord (entryOf t n) (recordClean b (entryOf t n))) (allBelow (leftoverClean b (entryOf t n)) (blocksHeld (entryOf t n))) .0 (known .clean) in
-        rw (l .1) at (eachRecord-at (entryOf t n) (recordClean b (entryOf t n)) r (a .0) (l .0))
-
     in-base : placeOf (entryOf t n) r + entryOf t n .size ≤ length b
     in-base = omega (arith, inside-base n r 0 (entryOf t n .size) (known .ok) (counted known, l .0, omega arith), known .sized)
 
@@ -136,7 +127,7 @@ module _ {t : Schema} {b : List ℕ} {n : ℕ} (known : Known t b n) where
         let three : length (run b (placeOf (entryOf t n) r + 1) 3) ≡ 3 = length-run b (placeOf (entryOf t n) r + 1) 3 (omega (arith, in-base)) in
         record {
           sized = length-run b (placeOf (entryOf t n) r) (entryOf t n .size) in-base;
-          filler = fillerOf-recordOf b n r (known .ok) (counted known) ∙ allZero-eq _ filled ∙ ap zeros three;
+          filler = fillerOf-recordOf b n r (known .ok) (counted known) ∙ allZero-eq _ (filler-zero (known .ok) b (known .sized) n r (counted known) (l .0) (known .clean)) ∙ ap zeros three;
           state = stateOf-recordOf b n r (known .ok) (counted known) ∙ eqb-true _ 1 (l .1);
           key = getRun-recordOf b n r own-key (known .ok) (counted known) (known .set);
           next = getWord-recordOf b n r root-next (known .ok) (counted known) (known .set) refl;

@@ -29,11 +29,11 @@ use Rattle.keeping.specs.Holds.{done, valid-at, kept, put}
 -- Q says P of each deed of a list
 module _ (P : Deed → Type 0) (Q : List Deed → Type 0) (none : Q []) (more : (d : Deed) (ds : List Deed) → P d → Q ds → Q (d ∷ ds))
     (parts : (d : Deed) (ds : List Deed) → Q (d ∷ ds) → P d × Q ds) where
-  each-append : (us vs : List Deed) → Q us → Q vs → Q (us ++ vs)
+  pub each-append : (us vs : List Deed) → Q us → Q vs → Q (us ++ vs)
   each-append [] vs h k = k
   each-append (u ∷ us) vs h k = more u (us ++ vs) (parts u us h .0) (each-append us vs (parts u us h .1) k)
 
-  each-below : (f : ℕ → List Deed) (n : ℕ) → ((k : ℕ) → k < n → Q (f k)) → Q (concatBelow f n)
+  pub each-below : (f : ℕ → List Deed) (n : ℕ) → ((k : ℕ) → k < n → Q (f k)) → Q (concatBelow f n)
   unfolding concatBelow
   each-below f zero h = none
   each-below f (suc n) h = each-append (concatBelow f n) (f n) (each-below f n (λ k l. h k (omega arith))) (h n (omega arith))

@@ -103,7 +103,7 @@ module _ {t : Schema} (ok : SchemaOk t) (b : List ℕ) (sized : length b ≡ 512
 
   module _ (n r : ℕ) (l : n < setCount t) (in-set : InSet (entryOf t n) r) where
     -- that of a live record is tested, that of a free one is zero with the record
-    filler-zero : setClean b (entryOf t n) ≡ true → allZero (fillerOf b (entryOf t n) r) ≡ true
+    pub filler-zero : setClean b (entryOf t n) ≡ true → allZero (fillerOf b (entryOf t n) r) ≡ true
     unfolding recordClean
     filler-zero c = by (isLive b (entryOf t n) r) (clean-says b (entryOf t n) c .0 r in-set)
       where

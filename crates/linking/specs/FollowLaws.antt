@@ -11,7 +11,6 @@ use Rattle.schema.specs.declared.Schema.{Schema}
 use Rattle.schema.specs.Decode.{entryOf, pathOf}
 use Rattle.schema.specs.Guarantee.{IsPathOf}
 use Rattle.records.specs.Records.{masterKey, keyOn, firstOn, lastOn}
-use Rattle.chains.specs.Points.{mastersOn}
 use Rattle.chains.specs.Members.{all-map}
 use Rattle.chains.specs.Segments.{Seg, headed-at, seg-frame}
 use Rattle.sound.specs.KeyLaws.{Live}
@@ -19,78 +18,63 @@ use Rattle.keeping.specs.Frames.{SameMasters, SameHeads, SamePoints, Moved}
 use Rattle.keeping.specs.Rows.{World, nextNode, priorNode, Mine, PathRows, Represents}
 use Rattle.housing.specs.RowLaws.{same-masters}
 use Rattle.housing.specs.MasterStep.{MasterStep}
-use Rattle.linking.specs.RowFacts.{row-none, row-bare}
+use Rattle.linking.specs.RowFacts.{pathAt, mastersAt, row-none, row-bare}
 
 -- ---- one path
 
--- what path j of set i sees of its masters: the one in record q of c is the one in record m of b; the one in record m has no points
-abbrev Stands : Schema → List ℕ → List ℕ → ℕ → ℕ → ℕ → ℕ → Type 0
-Stands t b c i j m q =
-    (masterKey c (mastersOn t (entryOf t i) j) q ≡ masterKey b (mastersOn t (entryOf t i) j) m)
-    × (firstOn c (mastersOn t (entryOf t i) j) q (pathOf (entryOf t i) j) ≡ firstOn b (mastersOn t (entryOf t i) j) m (pathOf (entryOf t i) j))
-    × (lastOn c (mastersOn t (entryOf t i) j) q (pathOf (entryOf t i) j) ≡ lastOn b (mastersOn t (entryOf t i) j) m (pathOf (entryOf t i) j))
+module _ (t : Schema) (b c : List ℕ) (i j : ℕ) where
+  -- what it sees of its masters: the one in record q of c is the one in record m of b; the one in record m has no points
+  abbrev Stands : ℕ → ℕ → Type 0
+  Stands m q =
+      (masterKey c (mastersAt t i j) q ≡ masterKey b (mastersAt t i j) m)
+      × (firstOn c (mastersAt t i j) q (pathAt t i j) ≡ firstOn b (mastersAt t i j) m (pathAt t i j))
+      × (lastOn c (mastersAt t i j) q (pathAt t i j) ≡ lastOn b (mastersAt t i j) m (pathAt t i j))
 
-abbrev Alone : Schema → List ℕ → ℕ → ℕ → ℕ → Type 0
-Alone t b i j m =
-    (firstOn b (mastersOn t (entryOf t i) j) m (pathOf (entryOf t i) j) ≡ 0) × (lastOn b (mastersOn t (entryOf t i) j) m (pathOf (entryOf t i) j) ≡ 0)
-
-module _ (t : Schema) (b c : List ℕ) (i j : ℕ) (rows : List ℕ → List ℕ) (same : SamePoints t b c i j) (pr : PathRows t b i j rows) where
-  was-live : (r : ℕ) → Live c (entryOf t i) r → Live b (entryOf t i) r
-  was-live r l = (l .0, sym (same .live r (l .0)) ∙ l .1)
-
-  still-mine : (key : List ℕ) (r : ℕ) → Mine t b i j key r → Mine t c i j key r
-  still-mine key r h = ((h .0 .0, same .live r (h .0 .0) ∙ h .0 .1), same .key r (h .0 .0) ∙ h .1)
-
-  -- the nodes of a row are as they were
-  same-nodes : (m q : ℕ) (key : List ℕ) (r : ℕ) → Mine t b i j key r
-      → (nextNode t c i j q r ≡ nextNode t b i j m r) × (priorNode t c i j q r ≡ priorNode t b i j m r)
-  same-nodes m q key r h =
-      let s = h .0 .0 in (
-        headed-at _ _ r (s .0) ∙ same .next r s ∙ sym (headed-at _ _ r (s .0)),
-        headed-at _ _ r (s .0) ∙ same .prior r s ∙ sym (headed-at _ _ r (s .0)),
-      )
-
-  -- so the row of a master that stands where it stood, or elsewhere, is its chain
-  still-chain : (m q : ℕ) → Live b (mastersOn t (entryOf t i) j) m → Stands t b c i j m q
-      → Seg (nextNode t c i j q) (priorNode t c i j q) 0 (rows (masterKey c (mastersOn t (entryOf t i) j) q)) 0
-  still-chain m q l s =
-      let key = masterKey b (mastersOn t (entryOf t i) j) m in
-      rw (s .0)
-      (seg-frame (nextNode t b i j m) (priorNode t b i j m) (nextNode t c i j q) (priorNode t c i j q) 0 (rows key) 0 (s .1) (s .2)
-      (all-map (Mine t b i j key) _ (same-nodes m q key) (rows key) (pr .mine key))
-      (pr .chain m l))
+  abbrev Alone : List ℕ → ℕ → Type 0
+  Alone d m = (firstOn d (mastersAt t i j) m (pathAt t i j) ≡ 0) × (lastOn d (mastersAt t i j) m (pathAt t i j) ≡ 0)
 
   -- each master of b stands in c, or has no points; each master of c stood in b, or has none and a key that none had
-  abbrev Forth : Type 0
-  Forth = (m : ℕ) → Live b (mastersOn t (entryOf t i) j) m → ((q : ℕ) × Live c (mastersOn t (entryOf t i) j) q × Stands t b c i j m q) ⊎ Alone t b i j m
+  module _ (rows : List ℕ → List ℕ) (same : SamePoints t b c i j) (pr : PathRows t b i j rows)
+      (forth : (m : ℕ) → Live b (mastersAt t i j) m → ((q : ℕ) × Live c (mastersAt t i j) q × Stands m q) ⊎ Alone b m)
+      (back : (q : ℕ) → Live c (mastersAt t i j) q
+      → ((m : ℕ) × Live b (mastersAt t i j) m × Stands m q)
+      ⊎ (Alone c q × ((m : ℕ) → Live b (mastersAt t i j) m → masterKey b (mastersAt t i j) m ≢ masterKey c (mastersAt t i j) q))) where
+    was-live : (r : ℕ) → Live c (entryOf t i) r → Live b (entryOf t i) r
+    was-live r l = (l .0, sym (same .live r (l .0)) ∙ l .1)
 
-  abbrev Back : Type 0
-  Back =
-      (q : ℕ) → Live c (mastersOn t (entryOf t i) j) q
-      → ((m : ℕ) × Live b (mastersOn t (entryOf t i) j) m × Stands t b c i j m q)
-      ⊎ (Alone t c i j q
-      × ((m : ℕ) → Live b (mastersOn t (entryOf t i) j) m → masterKey b (mastersOn t (entryOf t i) j) m ≢ masterKey c (mastersOn t (entryOf t i) j) q))
+    -- the nodes of a row are as they were, so it is the chain of its master, where it stood or elsewhere
+    still-chain : (m q : ℕ) → Live b (mastersAt t i j) m → Stands m q → Seg (nextNode t c i j q) (priorNode t c i j q) 0 (rows (masterKey c (mastersAt t i j) q)) 0
+    still-chain m q l s =
+        let key = masterKey b (mastersAt t i j) m in
+        rw (s .0)
+        (seg-frame (nextNode t b i j m) (priorNode t b i j m) (nextNode t c i j q) (priorNode t c i j q) 0 (rows key) 0 (s .1) (s .2)
+        (all-map (Mine t b i j key) _ nodes (rows key) (pr .mine key)) (pr .chain m l))
+      where
+        nodes : (r : ℕ) → Mine t b i j (masterKey b (mastersAt t i j) m) r
+            → (nextNode t c i j q r ≡ nextNode t b i j m r) × (priorNode t c i j q r ≡ priorNode t b i j m r)
+        nodes r h =
+            let s = h .0 .0 in
+            (headed-at _ _ r (s .0) ∙ same .next r s ∙ sym (headed-at _ _ r (s .0)), headed-at _ _ r (s .0) ∙ same .prior r s ∙ sym (headed-at _ _ r (s .0)))
 
-  -- a master with a point did not go, so each record has its master; and all of the path is as it was
-  still-owned : Forth → (r : ℕ) → Live c (entryOf t i) r
-      → (q : ℕ) × Live c (mastersOn t (entryOf t i) j) q × (masterKey c (mastersOn t (entryOf t i) j) q ≡ keyOn c (entryOf t i) r (pathOf (entryOf t i) j))
-  still-owned forth r l =
-      let o = pr .owned r (was-live r l) in
-      ⊎-elim (λ w. (w .0, w .1, w .2 .0 ∙ o .2 ∙ sym (same .key r (l .0))))
-      (λ z. absurd (let e = row-bare t b i j rows (keyOn b (entryOf t i) r (pathOf (entryOf t i) j)) pr (o .0) (o .1) (o .2) (z .0) in rw e at (pr .full r (was-live r l))))
-      (forth (o .0) (o .1))
+    -- a master with a point did not go, so each record has its master
+    still-owned : (r : ℕ) → Live c (entryOf t i) r → (q : ℕ) × Live c (mastersAt t i j) q × (masterKey c (mastersAt t i j) q ≡ keyOn c (entryOf t i) r (pathAt t i j))
+    still-owned r l =
+        let o = pr .owned r (was-live r l) in
+        ⊎-elim (λ w. (w .0, w .1, w .2 .0 ∙ o .2 ∙ sym (same .key r (l .0))))
+        (λ z. absurd (let e = row-bare t b i j rows (keyOn b (entryOf t i) r (pathAt t i j)) pr (o .0) (o .1) (o .2) (z .0) in rw e at (pr .full r (was-live r l))))
+        (forth (o .0) (o .1))
 
-  follows : Forth → Back → PathRows t c i j rows
-  follows forth back =
-      record {
-        no-blank = λ r l. rw (same .key r (l .0)) (pr .no-blank r (was-live r l));
-        owned = still-owned forth;
-        chain = λ q l.
-            ⊎-elim (λ w. still-chain (w .0) q (w .1) (w .2))
-            (λ z. rw (row-none t b i j rows (masterKey c (mastersOn t (entryOf t i) j) q) pr (z .1)) (z .0)) (back q l);
-        mine = λ key. all-map (Mine t b i j key) (Mine t c i j key) (still-mine key) (rows key) (pr .mine key);
-        full = λ r l. rw (same .key r (l .0)) (pr .full r (was-live r l));
-      }
+    follows : PathRows t c i j rows
+    follows =
+        record {
+          no-blank = λ r l. rw (same .key r (l .0)) (pr .no-blank r (was-live r l));
+          owned = still-owned;
+          chain = λ q l.
+              ⊎-elim (λ w. still-chain (w .0) q (w .1) (w .2)) (λ z. rw (row-none t b i j rows (masterKey c (mastersAt t i j) q) pr (z .1)) (z .0)) (back q l);
+          mine = λ key.
+              all-map (Mine t b i j key) (Mine t c i j key) (λ r h. ((h .0 .0, same .live r (h .0 .0) ∙ h .0 .1), same .key r (h .0 .0) ∙ h .1)) (rows key) (pr .mine key);
+          full = λ r l. rw (same .key r (l .0)) (pr .full r (was-live r l));
+        }
 
 -- every field that the path looks at is as it was
 pub path-frame : (t : Schema) (b c : List ℕ) (i j : ℕ) (rows : List ℕ → List ℕ) → IsPathOf t i j → SamePoints t b c i j → SameHeads t b c i j

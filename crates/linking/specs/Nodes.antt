@@ -1,90 +1,109 @@
--- The nodes of a path's chains as addresses: where a node's next and prior stand. Two nodes' pointers are different addresses if they differ in direction, in path, in record or, for node 0, in master.
+-- The pointers of a path's chains as addresses, both directions at once: `way` is true for next, false for prior. Node 0 is the master, whose
+-- pointers are first and last. All of that can be read off the address, so pointers that differ in any of it are different addresses.
 use Prim.Native.Nat.{ℕ, zero, suc, _≤_}
-use mathlib.Core.Path.{_≡_, refl, sym, ap}
-use mathlib.Core.Logic.{_≢_}
-use mathlib.Core.Bool.{false}
+use mathlib.Core.Path.{_≡_, refl, sym, ap, _∙_}
+use mathlib.Core.Logic.{_≢_, _⊎_, inl, inr, ⊎-elim}
+use mathlib.Core.Bool.{Bool, true, false}
 use mathlib.Core.List.{List}
 use native.Mathlib.Omega.{arith}
-use lib.Dec.{eqb}
 use Rattle.schema.specs.declared.Schema.{Schema}
-use Rattle.schema.specs.Decode.{entryOf}
+use Rattle.schema.specs.Decode.{entryOf, pathOf}
 use Rattle.schema.specs.Place.{InSet}
 use Rattle.schema.specs.Guarantee.{SchemaOk, IsPathOf}
-use Rattle.records.specs.Address.{Field, Address, prior, next, first, last, getWord}
-use Rattle.records.specs.AddressLaws.{address, fieldKind, other-record, other-field, other-kind}
+use Rattle.records.specs.Address.{Field, state, root-next, root-prior, own-key, body, key, prior, next, first, last, Address, getWord}
 use Rattle.records.specs.FieldLaws.{IsWord}
+use Rattle.records.specs.WholeRecords.{Elsewhere}
 use Rattle.chains.specs.SideLaws.{forwardFrom, backFrom}
 use Rattle.chains.specs.Points.{mastersOn}
 use Rattle.keeping.specs.Rows.{nextNode, priorNode}
 
-pub nextNode-is : (t : Schema) (b : List ℕ) (i j m a : ℕ) → nextNode t b i j m a ≡ getWord t b (forwardFrom t i j m a)
-nextNode-is t b i j m zero = refl
-nextNode-is t b i j m (suc a) = refl
+-- the pointer of node a in the chain of the master in record m, on path j of set i: its address, and what stands there
+abbrev pub pointer : Schema → Bool → ℕ → ℕ → ℕ → ℕ → Address
+pointer t true i j m a = forwardFrom t i j m a
+pointer t false i j m a = backFrom t i j m a
 
-pub priorNode-is : (t : Schema) (b : List ℕ) (i j m a : ℕ) → priorNode t b i j m a ≡ getWord t b (backFrom t i j m a)
-priorNode-is t b i j m zero = refl
-priorNode-is t b i j m (suc a) = refl
+abbrev pub node : Schema → List ℕ → Bool → ℕ → ℕ → ℕ → ℕ → ℕ
+node t b true i j m a = nextNode t b i j m a
+node t b false i j m a = priorNode t b i j m a
 
--- the node of a record
-pub forward-record : (t : Schema) (i j m a : ℕ) → 1 ≤ a → forwardFrom t i j m a ≡ address i a (next j)
-forward-record t i j m zero l = absurd (omega arith)
-forward-record t i j m (suc a) l = refl
+pub node-is : (t : Schema) (b : List ℕ) (way : Bool) (i j m a : ℕ) → node t b way i j m a ≡ getWord t b (pointer t way i j m a)
+node-is t b true i j m zero = refl
+node-is t b true i j m (suc a) = refl
+node-is t b false i j m zero = refl
+node-is t b false i j m (suc a) = refl
 
-pub back-record : (t : Schema) (i j m a : ℕ) → 1 ≤ a → backFrom t i j m a ≡ address i a (prior j)
-back-record t i j m zero l = absurd (omega arith)
-back-record t i j m (suc a) l = refl
+-- the pointers of a master of the path and of the set's records are words of the schema
+pub pointer-word : (t : Schema) (ok : SchemaOk t) (way : Bool) (i j m a : ℕ) → IsPathOf t i j → InSet (mastersOn t (entryOf t i) j) m → a ≤ entryOf t i .records
+    → IsWord t (pointer t way i j m a)
+pointer-word t ok true i j m zero p s l = ((omega (arith, ok .path i j p .master), s, (p, refl)), refl)
+pointer-word t ok true i j m (suc a) p s l = ((p .1, (omega arith, l), p), refl)
+pointer-word t ok false i j m zero p s l = ((omega (arith, ok .path i j p .master), s, (p, refl)), refl)
+pointer-word t ok false i j m (suc a) p s l = ((p .1, (omega arith, l), p), refl)
 
--- the pointers of the master's own node and of the set's records are words of the schema
-module _ (t : Schema) (ok : SchemaOk t) where
-  pub forward-word : (i j m a : ℕ) → IsPathOf t i j → InSet (mastersOn t (entryOf t i) j) m → a ≤ entryOf t i .records → IsWord t (forwardFrom t i j m a)
-  forward-word i j m zero p s l = ((omega (arith, ok .path i j p .master), s, (p, refl)), refl)
-  forward-word i j m (suc a) p s l = ((p .1, (omega arith, l), p), refl)
+-- they stand in the master or in the node's record
+pub pointer-at : (t : Schema) (way : Bool) (i j m a : ℕ)
+    → ((a ≡ 0) × (pointer t way i j m a .set ≡ pathOf (entryOf t i) j .master .0) × (pointer t way i j m a .at ≡ m))
+    ⊎ ((1 ≤ a) × (pointer t way i j m a .set ≡ i) × (pointer t way i j m a .at ≡ a))
+pointer-at t true i j m zero = inl (refl, refl, refl)
+pointer-at t true i j m (suc a) = inr (omega arith, refl, refl)
+pointer-at t false i j m zero = inl (refl, refl, refl)
+pointer-at t false i j m (suc a) = inr (omega arith, refl, refl)
 
-  pub back-word : (i j m a : ℕ) → IsPathOf t i j → InSet (mastersOn t (entryOf t i) j) m → a ≤ entryOf t i .records → IsWord t (backFrom t i j m a)
-  back-word i j m zero p s l = ((omega (arith, ok .path i j p .master), s, (p, refl)), refl)
-  back-word i j m (suc a) p s l = ((p .1, (omega arith, l), p), refl)
+-- so in another record than r of the variable set i, but for node r of its own paths
+pub pointer-elsewhere : (t : Schema) (ok : SchemaOk t) (way : Bool) (k j m a i r : ℕ) → IsPathOf t k j → t .masters ≤ i → (k ≡ i → a ≢ r)
+    → Elsewhere (pointer t way k j m a .set) (pointer t way k j m a .at) i r
+pointer-elsewhere t ok way k j m a i r p low n e =
+    ⊎-elim (λ s. omega (arith, ok .path k j p .master, e .0)) (λ s. n (sym (s .1) ∙ e .0) (sym (s .2) ∙ e .1)) (pointer-at t way k j m a)
 
 -- ---- different addresses
 
--- off the fields that are no pointer of that direction
-pub next-not-key : (t : Schema) (i j m a n r : ℕ) (f : Field) → eqb (fieldKind f) 7 ≡ false → eqb (fieldKind f) 8 ≡ false → address n r f ≢ forwardFrom t i j m a
-next-not-key t i j m zero n r f d e = other-kind n _ r m f (first i j) e
-next-not-key t i j m (suc a) n r f d e = other-kind n i r (suc a) f (next j) d
+-- what an address says: the direction, path, node and, for node 0, master of a pointer; nothing if it is no pointer of a path
+pub data Reading : Type 0 where
+  none : Reading
+  link : Bool → ℕ → ℕ → ℕ → ℕ → Reading
 
-pub prior-not-key : (t : Schema) (i j m a n r : ℕ) (f : Field) → eqb (fieldKind f) 6 ≡ false → eqb (fieldKind f) 9 ≡ false → address n r f ≢ backFrom t i j m a
-prior-not-key t i j m zero n r f d e = other-kind n _ r m f (last i j) e
-prior-not-key t i j m (suc a) n r f d e = other-kind n i r (suc a) f (prior j) d
+abbrev pub reading : ℕ → ℕ → Field → Reading
+reading n r state = none
+reading n r root-next = none
+reading n r root-prior = none
+reading n r own-key = none
+reading n r body = none
+reading n r (key j) = none
+reading n r (prior j) = link false n j r 0
+reading n r (next j) = link true n j r 0
+reading n r (first i j) = link true i j 0 r
+reading n r (last i j) = link false i j 0 r
 
--- of the other direction
-pub next-not-prior : (t : Schema) (i j m a k l q c : ℕ) → forwardFrom t i j m a ≢ backFrom t k l q c
-next-not-prior t i j m zero k l q c = prior-not-key t k l q c _ m (first i j) refl refl
-next-not-prior t i j m (suc a) k l q c = prior-not-key t k l q c i (suc a) (next j) refl refl
+abbrev read : Address → Reading
+read a = reading (a .set) (a .at) (a .field)
 
-pub prior-not-next : (t : Schema) (i j m a k l q c : ℕ) → backFrom t i j m a ≢ forwardFrom t k l q c
-prior-not-next t i j m a k l q c e = next-not-prior t k l q c i j m a (sym e)
+abbrev owner : ℕ → ℕ → ℕ
+owner m zero = m
+owner m (suc a) = 0
 
--- of another path
-pub next-other-path : (t : Schema) (i j k l m a q c : ℕ) → ((i ≡ k) × (j ≡ l) → ⊥) → forwardFrom t i j m a ≢ forwardFrom t k l q c
-next-other-path t i j k l m zero q zero d = other-field _ _ m q (first i j) (first k l) (λ e. d (cc, cc))
-next-other-path t i j k l m zero q (suc c) d = other-kind _ k m (suc c) (first i j) (next l) refl
-next-other-path t i j k l m (suc a) q zero d = other-kind i _ (suc a) q (next j) (first k l) refl
-next-other-path t i j k l m (suc a) q (suc c) d = λ e. d (ap (λ (x : Address). x .set) e, (let f : next j ≡ next l = ap (λ (x : Address). x .field) e in cc))
+pointer-read : (t : Schema) (way : Bool) (i j m a : ℕ) → read (pointer t way i j m a) ≡ link way i j a (owner m a)
+pointer-read t true i j m zero = refl
+pointer-read t true i j m (suc a) = refl
+pointer-read t false i j m zero = refl
+pointer-read t false i j m (suc a) = refl
 
-pub prior-other-path : (t : Schema) (i j k l m a q c : ℕ) → ((i ≡ k) × (j ≡ l) → ⊥) → backFrom t i j m a ≢ backFrom t k l q c
-prior-other-path t i j k l m zero q zero d = other-field _ _ m q (last i j) (last k l) (λ e. d (cc, cc))
-prior-other-path t i j k l m zero q (suc c) d = other-kind _ k m (suc c) (last i j) (prior l) refl
-prior-other-path t i j k l m (suc a) q zero d = other-kind i _ (suc a) q (prior j) (last k l) refl
-prior-other-path t i j k l m (suc a) q (suc c) d = λ e. d (ap (λ (x : Address). x .set) e, (let f : prior j ≡ prior l = ap (λ (x : Address). x .field) e in cc))
+pub pointers-apart : (t : Schema) (way turn : Bool) (i j m a k l q c : ℕ) → (way ≡ turn → i ≡ k → j ≡ l → a ≡ c → (m ≡ q) ⊎ (1 ≤ a) → ⊥)
+    → pointer t way i j m a ≢ pointer t turn k l q c
+pointers-apart t way turn i j m a k l q c d e =
+    let same : link way i j a (owner m a) ≡ link turn k l c (owner q c) = sym (pointer-read t way i j m a) ∙ ap read e ∙ pointer-read t turn k l q c in
+    d (cc) (cc) (cc) (cc) (by a c (cc) (cc))
+  where
+    by : (a c : ℕ) → a ≡ c → owner m a ≡ owner q c → (m ≡ q) ⊎ (1 ≤ a)
+    by zero zero s o = inl o
+    by zero (suc c) s o = absurd (omega arith)
+    by (suc a) c s o = inr (omega arith)
 
--- of another record, or of another master's node 0
-pub next-other-node : (t : Schema) (i j m a q c : ℕ) → (a ≡ c → (a ≡ 0) × (m ≢ q)) → forwardFrom t i j m a ≢ forwardFrom t i j q c
-next-other-node t i j m zero q zero d = other-record _ _ m q (first i j) (first i j) (d refl .1)
-next-other-node t i j m zero q (suc c) d = other-kind _ i m (suc c) (first i j) (next j) refl
-next-other-node t i j m (suc a) q zero d = other-kind i _ (suc a) q (next j) (first i j) refl
-next-other-node t i j m (suc a) q (suc c) d = other-record i i (suc a) (suc c) (next j) (next j) (λ e. omega (arith, d e))
+-- a field that is no pointer of a path
+abbrev pub Plain : ℕ → ℕ → Field → Type 0
+Plain n r f = reading n r f ≡ none
 
-pub prior-other-node : (t : Schema) (i j m a q c : ℕ) → (a ≡ c → (a ≡ 0) × (m ≢ q)) → backFrom t i j m a ≢ backFrom t i j q c
-prior-other-node t i j m zero q zero d = other-record _ _ m q (last i j) (last i j) (d refl .1)
-prior-other-node t i j m zero q (suc c) d = other-kind _ i m (suc c) (last i j) (prior j) refl
-prior-other-node t i j m (suc a) q zero d = other-kind i _ (suc a) q (prior j) (last i j) refl
-prior-other-node t i j m (suc a) q (suc c) d = other-record i i (suc a) (suc c) (prior j) (prior j) (λ e. omega (arith, d e))
+pub plain-apart : (t : Schema) (way : Bool) (n r : ℕ) (f : Field) (i j m a : ℕ) → Plain n r f → record { set = n; at = r; field = f } ≢ pointer t way i j m a
+plain-apart t way n r f i j m a p e =
+    let z : none ≡ link way i j a (owner m a) = sym p ∙ ap read e ∙ pointer-read t way i j m a in
+    let o : _≡_ {A = ℕ} 0 1 = cc in
+    omega arith
