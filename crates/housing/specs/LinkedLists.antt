@@ -1,13 +1,14 @@
--- Lists of linked records, each record read with its two neighbours, so that a list is linked exactly if its parts are. The change of such a
--- list: its middle becomes another; next of the record before it, prior of the record behind it and the pointers of the new middle are what the
--- new list says, all others are as they were. A new master, a move and a removal are this one change.
-use Prim.Native.Nat.{ℕ, _≤_}
+-- Lists of linked records, each record read with its two neighbours. The home of a ROOT chain has no first and last stored; read off the list itself
+-- they make it a chain like those of the paths, so the change of its middle is the one law of Segments: next of the record before it, prior of the
+-- record behind it and the pointers of the new middle are what the new list says, all others are as they were. A new master, a move and a removal
+-- are this one change.
+use Prim.Native.Nat.{ℕ, zero, suc, _≤_}
 use mathlib.Core.Path.{_≡_, refl, sym, _∙_}
-use mathlib.Core.Logic.{_≢_, inl, inr, ⊎-elim}
-use mathlib.Core.List.{List, [], _∷_, _++_, append-nil}
+use mathlib.Core.Logic.{_≢_, _⊎_, inl, inr, ⊎-elim}
+use mathlib.Core.List.{List, [], _∷_, _++_}
 use native.Mathlib.Omega.{arith}
-use Rattle.chains.specs.Members.{In, all-in, in-all, NoDup, in-left, in-right, in-cases, not-fresh, all-left, all-right, nodup-ends}
-use Rattle.chains.specs.Segments.{NoZero, lastOr, headOr, all-last, all-head}
+use Rattle.chains.specs.Members.{In, in-all, NoDup, in-left, in-right, in-cases, not-fresh, all-left, all-right, all-append}
+use Rattle.chains.specs.Segments.{NoZero, lastOr, headOr, all-last, all-head, Seg, at-ends, headed, headed-at, chain-change}
 use Rattle.sound.specs.SoundLaws.{Linked}
 
 -- ---- membership round a middle
@@ -49,6 +50,10 @@ head-append : (q : ℕ) (us vs : List ℕ) → headOr q (us ++ vs) ≡ headOr (h
 head-append q [] vs = refl
 head-append q (u ∷ us) vs = refl
 
+last-append : (p : ℕ) (us vs : List ℕ) → lastOr p (us ++ vs) ≡ lastOr (lastOr p us) vs
+last-append p [] vs = refl
+last-append p (u ∷ us) vs = last-append u us vs
+
 module _ (nx pv : ℕ → ℕ) where
   pub linked-chained : (p head : ℕ) (rs : List ℕ) → Linked nx pv p head rs → (head ≡ headOr 0 rs) × Chained nx pv p rs 0
   linked-chained p head [] h = (h, tt)
@@ -58,60 +63,94 @@ module _ (nx pv : ℕ → ℕ) where
   chained-linked p head [] e c = e
   chained-linked p head (r ∷ rs) e c = (e, c .0, chained-linked r (nx r) rs (c .1) (c .2))
 
-  -- a list without its first records, and two lists joined
+  -- a list without its first records
   pub chained-right : (p : ℕ) (us vs : List ℕ) (q : ℕ) → Chained nx pv p (us ++ vs) q → Chained nx pv (lastOr p us) vs q
   chained-right p [] vs q c = c
   chained-right p (u ∷ us) vs q c = chained-right u us vs q (c .2)
 
-  chained-join : (p : ℕ) (us vs : List ℕ) (q : ℕ) → Chained nx pv p us (headOr q vs) → Chained nx pv (lastOr p us) vs q → Chained nx pv p (us ++ vs) q
-  chained-join p [] vs q c d = d
-  chained-join p (u ∷ us) vs q c d = (c .0, c .1 ∙ sym (head-append q us vs), chained-join u us vs q (c .2) d)
+-- ---- pointers as they were
 
--- ---- changes
+pub chained-frame : (nx pv nx′ pv′ : ℕ → ℕ) (p : ℕ) (xs : List ℕ) (q : ℕ) → ((a : ℕ) → In a xs → (nx′ a ≡ nx a) × (pv′ a ≡ pv a))
+    → Chained nx pv p xs q → Chained nx′ pv′ p xs q
+chained-frame nx pv nx′ pv′ p [] q k c = tt
+chained-frame nx pv nx′ pv′ p (x ∷ xs) q k c =
+    let t = k x (inl refl) in
+    (t .1 ∙ c .0, t .0 ∙ c .1, chained-frame nx pv nx′ pv′ x xs q (λ a m. k a (inr m)) (c .2))
 
-module _ (nx pv nx′ pv′ : ℕ → ℕ) where
-  -- pointers as they were
-  pub chained-frame : (p : ℕ) (xs : List ℕ) (q : ℕ) → ((a : ℕ) → In a xs → (nx′ a ≡ nx a) × (pv′ a ≡ pv a)) → Chained nx pv p xs q → Chained nx′ pv′ p xs q
-  chained-frame p [] q k c = tt
-  chained-frame p (x ∷ xs) q k c = let t = k x (inl refl) in (t .1 ∙ c .0, t .0 ∙ c .1, chained-frame x xs q (λ a m. k a (inr m)) (c .2))
+-- ---- with a head that is not stored, but read off the list, such a list is a chain in the words of Segments
 
-  -- behind the last of us, l, come others
-  new-end : (p : ℕ) (us xs xs′ : List ℕ) (l : ℕ) → l ≡ lastOr p us → NoDup us → NoZero us → ((a : ℕ) → In a us → a ≢ l → nx′ a ≡ nx a)
-      → ((a : ℕ) → In a us → pv′ a ≡ pv a) → (1 ≤ l → nx′ l ≡ headOr 0 xs′) → Chained nx pv p (us ++ xs) 0 → Chained nx′ pv′ l xs′ 0
-      → Chained nx′ pv′ p (us ++ xs′) 0
-  new-end p [] xs xs′ l e d z kn kp w c r = rw e at r
-  new-end p (u ∷ []) xs xs′ l e d z kn kp w c r = (kp u (inl refl) ∙ c .0, rw (← e) (w (omega arith)), rw e at r)
-  new-end p (u ∷ x ∷ us) xs xs′ l e d z kn kp w c r =
-      let f : u ≢ l = rw e (all-last (λ y. u ≢ y) x us (d .0 .0) (d .0 .1)) in (
-        kp u (inl refl) ∙ c .0,
-        kn u (inl refl) f ∙ c .1,
-        new-end u (x ∷ us) xs xs′ l e (d .1) (z .1) (λ a m. kn a (inr m)) (λ a m. kp a (inr m)) w (c .2) r,
-      )
+module _ (nx pv : ℕ → ℕ) (f l : ℕ) where
+  chained-seg : (p : ℕ) (xs : List ℕ) (q : ℕ) → NoZero xs → Chained nx pv p xs q → headed f nx p ≡ headOr q xs → headed l pv q ≡ lastOr p xs
+      → Seg (headed f nx) (headed l pv) p xs q
+  chained-seg p [] q z c a b = (a, b)
+  chained-seg p (x ∷ xs) q z c a b =
+      ((a, headed-at l pv x (z .0) ∙ c .0), chained-seg x xs q (z .1) (c .2) (headed-at f nx x (z .0) ∙ c .1) b)
 
-  -- before the first of vs, n, comes another
-  new-begin : (p p′ : ℕ) (vs : List ℕ) (n : ℕ) → n ≡ headOr 0 vs → NoDup vs → NoZero vs → ((a : ℕ) → In a vs → nx′ a ≡ nx a)
-      → ((a : ℕ) → In a vs → a ≢ n → pv′ a ≡ pv a) → (1 ≤ n → pv′ n ≡ p′) → Chained nx pv p vs 0 → Chained nx′ pv′ p′ vs 0
-  new-begin p p′ [] n e d z kn kp w c = tt
-  new-begin p p′ (v ∷ vs) n e d z kn kp w c = (
-    rw (← e) (w (omega arith)),
-    kn v (inl refl) ∙ c .1,
-    chained-frame v vs 0 (λ a m. (kn a (inr m), kp a (inr m) (λ t. not-fresh v vs (rw (t ∙ e) at m) (d .0)))) (c .2),
+  seg-chained : (p : ℕ) (xs : List ℕ) (q : ℕ) → NoZero xs → Seg (headed f nx) (headed l pv) p xs q → Chained nx pv p xs q
+  seg-chained p [] q z s = tt
+  seg-chained p (x ∷ xs) q z s = (
+    sym (headed-at l pv x (z .0)) ∙ s .0 .1,
+    sym (headed-at f nx x (z .0)) ∙ at-ends (headed f nx) (headed l pv) x xs q (s .1) .0,
+    seg-chained x xs q (z .1) (s .1),
   )
 
-  -- between l and n the middle ms becomes ms′
-  pub chained-change : (us ms ms′ vs : List ℕ) (l n : ℕ) → l ≡ lastOr 0 us → n ≡ headOr 0 vs → NoDup (us ++ (ms ++ vs)) → NoZero (us ++ (ms ++ vs))
-      → ((a : ℕ) → In a (us ++ vs) → a ≢ l → nx′ a ≡ nx a) → ((a : ℕ) → In a (us ++ vs) → a ≢ n → pv′ a ≡ pv a)
-      → Chained nx′ pv′ l ms′ n → (1 ≤ l → nx′ l ≡ headOr n ms′) → (1 ≤ n → pv′ n ≡ lastOr l ms′)
-      → Chained nx pv 0 (us ++ (ms ++ vs)) 0 → Chained nx′ pv′ 0 (us ++ (ms′ ++ vs)) 0
-  chained-change us ms ms′ vs l n el en d z kn kp c wl wn h =
-      let left = rw append-nil at (nodup-ends us (ms ++ vs) [] (rw append-nil d)) in
-      let right = nodup-ends [] ms vs (nodup-ends [] us (ms ++ vs) d) in
-      let zl = all-left (λ x. 1 ≤ x) us (ms ++ vs) z in
-      let zr = all-right (λ x. 1 ≤ x) ms vs (all-right (λ x. 1 ≤ x) us (ms ++ vs) z) in
-      let two : (r : ℕ) → In r us → In r vs → ⊥ = λ r m k. middle-apart r [] us (ms ++ vs) d (in-right r ms vs k) m in
-      let rest = chained-right nx pv (lastOr 0 us) ms vs 0 (chained-right nx pv 0 us (ms ++ vs) 0 h) in
-      let behind = new-begin (lastOr (lastOr 0 us) ms) (lastOr l ms′) vs n en right zr
-      (λ a m. kn a (in-right a us vs m) (rw el (not-last a us (all-in (λ x. 1 ≤ x) a vs zr m) (λ k. two a k m)))) (λ a m. kp a (in-right a us vs m)) wn rest in
-      new-end 0 us (ms ++ vs) (ms′ ++ vs) l el left zl
-      (λ a m. kn a (in-left a us vs m)) (λ a m. kp a (in-left a us vs m) (rw en (not-first a vs (all-in (λ x. 1 ≤ x) a us zl m) (two a m))))
-      (λ o. rw (head-append 0 ms′ vs, ← en) (wl o)) h (chained-join nx′ pv′ l ms′ vs 0 (rw (← en) c) behind)
+-- ---- the change of a middle: that of Segments, where the head follows the list
+
+module _ (nx pv nx′ pv′ : ℕ → ℕ) (us ms ms′ vs : List ℕ) where
+  -- the list before, and after
+  abbrev old : List ℕ
+  old = us ++ (ms ++ vs)
+
+  abbrev now : List ℕ
+  now = us ++ (ms′ ++ vs)
+
+  abbrev Round : ℕ → Type 0
+  Round a = (a ≡ 0) ⊎ In a (us ++ vs)
+
+  next-round : ((a : ℕ) → In a (us ++ vs) → a ≢ lastOr 0 us → nx′ a ≡ nx a) → (a : ℕ) → a ≢ lastOr 0 us → Round a → headed (headOr 0 now) nx′ a ≡ headed (headOr 0 old) nx a
+  next-round k zero n r = head us n
+    where
+      head : (us : List ℕ) → 0 ≢ lastOr 0 us → headOr 0 (us ++ (ms′ ++ vs)) ≡ headOr 0 (us ++ (ms ++ vs))
+      head [] n = absurd (n refl)
+      head (u ∷ us) n = refl
+  next-round k (suc a) n (inl z) = absurd (omega arith)
+  next-round k (suc a) n (inr m) = k (suc a) m n
+
+  prior-round : ((a : ℕ) → In a (us ++ vs) → a ≢ headOr 0 vs → pv′ a ≡ pv a) → (a : ℕ) → a ≢ headOr 0 vs → Round a → headed (lastOr 0 now) pv′ a ≡ headed (lastOr 0 old) pv a
+  prior-round k zero n r = last vs n
+    where
+      last : (vs : List ℕ) → 0 ≢ headOr 0 vs → lastOr 0 (us ++ (ms′ ++ vs)) ≡ lastOr 0 (us ++ (ms ++ vs))
+      last [] n = absurd (n refl)
+      last (v ∷ vs) n = rw (last-append 0 us (ms′ ++ (v ∷ vs)), last-append 0 us (ms ++ (v ∷ vs)), last-append (lastOr 0 us) ms′ (v ∷ vs), last-append (lastOr 0 us) ms (v ∷ vs)) refl
+  prior-round k (suc a) n (inl z) = absurd (omega arith)
+  prior-round k (suc a) n (inr m) = k (suc a) m n
+
+  -- where the new middle begins and ends
+  begins : (l : ℕ) → l ≡ lastOr 0 us → NoZero us → (1 ≤ l → nx′ l ≡ headOr (headOr 0 vs) ms′) → headed (headOr 0 now) nx′ l ≡ headOr (headOr 0 vs) ms′
+  begins zero e z w = first us e z
+    where
+      first : (us : List ℕ) → 0 ≡ lastOr 0 us → NoZero us → headOr 0 (us ++ (ms′ ++ vs)) ≡ headOr (headOr 0 vs) ms′
+      first [] e z = head-append 0 ms′ vs
+      first (u ∷ us) e z = let h : 1 ≤ lastOr u us = all-last (λ x. 1 ≤ x) u us (z .0) (z .1) in absurd (omega arith)
+  begins (suc l) e z w = w (omega arith)
+
+  ends : (n : ℕ) → n ≡ headOr 0 vs → NoZero vs → (1 ≤ n → pv′ n ≡ lastOr (lastOr 0 us) ms′) → headed (lastOr 0 now) pv′ n ≡ lastOr (lastOr 0 us) ms′
+  ends zero e z w = none vs e z
+    where
+      none : (vs : List ℕ) → 0 ≡ headOr 0 vs → NoZero vs → lastOr 0 (us ++ (ms′ ++ vs)) ≡ lastOr (lastOr 0 us) ms′
+      none [] e z = rw (last-append 0 us (ms′ ++ []), last-append (lastOr 0 us) ms′ []) refl
+      none (v ∷ vs) e z = absurd (omega arith)
+  ends (suc n) e z w = w (omega arith)
+
+  pub chained-change : NoZero (us ++ (ms ++ vs)) → NoZero ms′
+      → ((a : ℕ) → In a (us ++ vs) → a ≢ lastOr 0 us → nx′ a ≡ nx a) → ((a : ℕ) → In a (us ++ vs) → a ≢ headOr 0 vs → pv′ a ≡ pv a)
+      → Chained nx′ pv′ (lastOr 0 us) ms′ (headOr 0 vs) → (1 ≤ lastOr 0 us → nx′ (lastOr 0 us) ≡ headOr (headOr 0 vs) ms′)
+      → (1 ≤ headOr 0 vs → pv′ (headOr 0 vs) ≡ lastOr (lastOr 0 us) ms′) → Chained nx pv 0 (us ++ (ms ++ vs)) 0 → Chained nx′ pv′ 0 (us ++ (ms′ ++ vs)) 0
+  chained-change z z′ kn kp c wl wn h =
+      let zu = all-left (λ x. 1 ≤ x) us (ms ++ vs) z in
+      let zv = all-right (λ x. 1 ≤ x) ms vs (all-right (λ x. 1 ≤ x) us (ms ++ vs) z) in
+      seg-chained nx′ pv′ (headOr 0 now) (lastOr 0 now) 0 now 0 (all-append (λ x. 1 ≤ x) us (ms′ ++ vs) zu (all-append (λ x. 1 ≤ x) ms′ vs z′ zv))
+      (chain-change (headed (headOr 0 old) nx) (headed (lastOr 0 old) pv) (headed (headOr 0 now) nx′) (headed (lastOr 0 now) pv′) us ms ms′ vs Round
+      (next-round kn) (prior-round kp) (inl refl, in-all Round (us ++ vs) (λ a m. inr m))
+      (chained-seg nx pv (headOr 0 old) (lastOr 0 old) 0 old 0 z h refl refl) z
+      (chained-seg nx′ pv′ (headOr 0 now) (lastOr 0 now) (lastOr 0 us) ms′ (headOr 0 vs) z′ c (begins (lastOr 0 us) refl zu wl) (ends (headOr 0 vs) refl zv wn)))

@@ -131,10 +131,10 @@ module _ (b c : List ℕ) (e : Entry) (some : 1 ≤ e .records) (ms : MasterSet 
   -- the home g has the new list
   new-row : HomeRow c e g (us ++ (mid′ ++ vs))
   new-row = record {
-    chain = chained-change (rootNext b e) (rootPrior b e) (rootNext c e) (rootPrior c e) us mid mid′ vs l n (w .before) (w .behind) nodup
-        (rw (w .list) at (no-zeros b e g (homes g) row))
-        (λ a m q. w .kept .next-else a (member a m .0 .0) (fresh a m) q) (λ a m q. w .kept .prior-else a (member a m .0 .0) (fresh a m) q)
-        (w .middle) (w .kept .next) (w .kept .prior) (rw (w .list) at (row .chain));
+    chain = chained-change (rootNext b e) (rootPrior b e) (rootNext c e) (rootPrior c e) us mid mid′ vs (rw (w .list) at (no-zeros b e g (homes g) row))
+        (all-map (OfHome c e g) (λ r. 1 ≤ r) (λ r o. o .0 .0 .0) mid′ (w .new))
+        (λ a m q. w .kept .next-else a (member a m .0 .0) (fresh a m) (rw (w .before) q)) (λ a m q. w .kept .prior-else a (member a m .0 .0) (fresh a m) (rw (w .behind) q))
+        (rw (w .before, w .behind) at (w .middle)) (rw (w .before, w .behind) at (w .kept .next)) (rw (w .before, w .behind) at (w .kept .prior)) (rw (w .list) at (row .chain));
     begins = starts us (w .before) (rw (w .list) at (row .begins));
     only = all-append (OfHome c e g) us (mid′ ++ vs) (all-left (OfHome c e g) us vs round)
         (all-append (OfHome c e g) mid′ vs (w .new) (all-right (OfHome c e g) us vs round));

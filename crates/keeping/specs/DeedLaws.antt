@@ -41,32 +41,17 @@ module _ (P : Deed → Type 0) (Q : List Deed → Type 0) (none : Q []) (more : 
 pub valid-append : (t : Schema) (us vs : List Deed) → AllValid t us → AllValid t vs → AllValid t (us ++ vs)
 valid-append t = each-append (Valid t) (AllValid t) tt (λ d ds p q. (p, q)) (λ d ds h. h)
 
-pub valid-below : (t : Schema) (f : ℕ → List Deed) (n : ℕ) → ((k : ℕ) → k < n → AllValid t (f k)) → AllValid t (concatBelow f n)
-valid-below t = each-below (Valid t) (AllValid t) tt (λ d ds p q. (p, q)) (λ d ds h. h)
-
 pub misses-append : (a : Address) (us vs : List Deed) → Misses a us → Misses a vs → Misses a (us ++ vs)
 misses-append a = each-append (Miss a) (Misses a) tt (λ d ds p q. (p, q)) (λ d ds h. h)
 
 pub misses-below : (a : Address) (f : ℕ → List Deed) (n : ℕ) → ((k : ℕ) → k < n → Misses a (f k)) → Misses a (concatBelow f n)
 misses-below a = each-below (Miss a) (Misses a) tt (λ d ds p q. (p, q)) (λ d ds h. h)
 
-pub spared-append : (n r : ℕ) (us vs : List Deed) → AllSpared n r us → AllSpared n r vs → AllSpared n r (us ++ vs)
-spared-append n r = each-append (Spared n r) (AllSpared n r) tt (λ d ds p q. (p, q)) (λ d ds h. h)
-
-pub spared-below : (n r : ℕ) (f : ℕ → List Deed) (m : ℕ) → ((k : ℕ) → k < m → AllSpared n r (f k)) → AllSpared n r (concatBelow f m)
-spared-below n r = each-below (Spared n r) (AllSpared n r) tt (λ d ds p q. (p, q)) (λ d ds h. h)
-
-pub off-append : (n r : ℕ) (us vs : List Deed) → AllOff n r us → AllOff n r vs → AllOff n r (us ++ vs)
-off-append n r = each-append (Off n r) (AllOff n r) tt (λ d ds p q. (p, q)) (λ d ds h. h)
-
 pub off-below : (n r : ℕ) (f : ℕ → List Deed) (m : ℕ) → ((k : ℕ) → k < m → AllOff n r (f k)) → AllOff n r (concatBelow f m)
 off-below n r = each-below (Off n r) (AllOff n r) tt (λ d ds p q. (p, q)) (λ d ds h. h)
 
 pub zeroed-append : (us vs : List Deed) → AllZeroed us → AllZeroed vs → AllZeroed (us ++ vs)
 zeroed-append = each-append Zeroed AllZeroed tt (λ d ds p q. (p, q)) (λ d ds h. h)
-
-pub zeroed-below : (f : ℕ → List Deed) (n : ℕ) → ((k : ℕ) → k < n → AllZeroed (f k)) → AllZeroed (concatBelow f n)
-zeroed-below = each-below Zeroed AllZeroed tt (λ d ds p q. (p, q)) (λ d ds h. h)
 
 -- the deeds of number j among those below n, where all others miss an address
 pub misses-but : (a : Address) (f : ℕ → List Deed) (n j : ℕ) → j < n → ((k : ℕ) → k < n → k ≢ j → Misses a (f k))

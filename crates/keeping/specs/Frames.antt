@@ -1,15 +1,14 @@
 -- What two data bases have in common, field by field: `b` before a call, `c` after it. A call's effect is told in these words, and the chains
 -- are reasoned about from there.
-use Prim.Native.Nat.{ℕ, _<_}
+use Prim.Native.Nat.{ℕ}
 use mathlib.Core.Path.{_≡_}
 use mathlib.Core.Logic.{_≢_, _⊎_}
 use mathlib.Core.List.{List}
 use Rattle.schema.specs.declared.Schema.{Schema}
-use Rattle.schema.specs.Decode.{entryOf, pathOf, setCount}
+use Rattle.schema.specs.Decode.{entryOf, pathOf}
 use Rattle.schema.specs.Place.{InSet}
 use Rattle.schema.specs.Guarantee.{IsPathOf}
 use Rattle.records.specs.Records.{isLive, rootNext, rootPrior, masterKey, firstOn, lastOn, keyOn, priorOn, nextOn}
-use Rattle.records.specs.Areas.{areaOf}
 use Rattle.chains.specs.Points.{mastersOn}
 use Rattle.sound.specs.KeyLaws.{Live}
 
@@ -33,10 +32,6 @@ pub record SamePoints (t : Schema) (b c : List ℕ) (i j : ℕ) : Type 0 where
   pub key : (r : ℕ) → InSet (entryOf t i) r → keyOn c (entryOf t i) r (pathOf (entryOf t i) j) ≡ keyOn b (entryOf t i) r (pathOf (entryOf t i) j)
   pub prior : (r : ℕ) → InSet (entryOf t i) r → priorOn c (entryOf t i) r (pathOf (entryOf t i) j) ≡ priorOn b (entryOf t i) r (pathOf (entryOf t i) j)
   pub next : (r : ℕ) → InSet (entryOf t i) r → nextOn c (entryOf t i) r (pathOf (entryOf t i) j) ≡ nextOn b (entryOf t i) r (pathOf (entryOf t i) j)
-
--- the records of the variable sets read into the same areas, all but record q of set k
-abbrev pub AreasBut : Schema → List ℕ → List ℕ → ℕ → ℕ → Type 0
-AreasBut t b c k q = (i r : ℕ) → i < setCount t → InSet (entryOf t i) r → ((i ≡ k) × (r ≡ q) → ⊥) → areaOf c (entryOf t i) r ≡ areaOf b (entryOf t i) r
 
 -- ---- masters that move
 

@@ -9,8 +9,6 @@ use lib.Dec.{eqb}
 use borrow.Author.Tests.{eqb-true, eqb-false}
 use Rattle.octets.specs.Octets.{sameBytes}
 use Rattle.octets.specs.BelowLaws.{never-both}
-use Rattle.terms.specs.declared.Operation.{Operation}
-use Rattle.terms.specs.Operation.{operationOf}
 use Rattle.schema.specs.declared.Entry.{Entry}
 use Rattle.schema.specs.declared.Schema.{Schema}
 use Rattle.schema.specs.Decode.{entryOf, setCount, schemaOf}
@@ -97,9 +95,6 @@ module _ (c : Call) (rows : AllRows) (g : Ready (c .schema) (c .base) rows) wher
 
   abbrev x : Scene
   x = sceneUnder t c
-
-  abbrev o : Operation
-  o = operationOf (c .operation)
 
   abbrev n : ℕ
   n = setNamed t (c .name)
