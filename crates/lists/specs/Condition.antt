@@ -1,7 +1,7 @@
 -- Condition 3, third page: the statement.
--- "From a base just formatted, or one that sign-on accepts, after every sequence of calls under one schema: each path of each master reads
--- forward as one finite list, backward as its reverse, a sweep finds the same records once each, the list is what a plain list per bottle
--- would hold, and no call says DAMG."
+-- In words: from a base just formatted, or one that sign-on accepts, after every sequence of calls under one schema, each path of each master
+-- reads forward as one finite list and backward as its reverse, a sweep finds the same records once each, the list is what a plain list per bottle
+-- would hold, and no call says DAMG.
 use Prim.Native.Nat.{ℕ}
 use mathlib.Core.Path.{_≡_}
 use mathlib.Core.Logic.{_⊎_}
@@ -11,18 +11,18 @@ use Rattle.terms.specs.declared.Status.the-variants.{Done}
 use Rattle.schema.specs.Decode.{schemaOf}
 use Rattle.calls.specs.Call.{Call, Outcome, callOf}
 use Rattle.lists.specs.Plain.{Point, Lists}
-use Rattle.lists.specs.Readings.{Request, run, plain, NoDamage, Reads, Place, setAt, entryAt, pathAt, IsPlace, Exists, readv, readr, rdnxt, link, ofKey, SameOnce}
+use Rattle.lists.specs.Readings.{Request, run, plain, NoDamage, Reads, Place, setAt, entryAt, pathAt, link, IsPlace, noSet, noPath, rdnxt, Exists, readv, readr, ofKey, SameOnce}
 
 -- ---- where a sequence starts
 
 -- SINON answers ****
 abbrev pub SignsOn : (Call → Outcome) → List ℕ → List ℕ → Type 0
-SignsOn answer s b = answer (callOf (text "SINON") [] 0 [] [] [] s b) .status ≡ Done
+SignsOn answer s b = answer (callOf (text "SINON") noSet 0 noPath [] [] s b) .status ≡ Done
 
 -- b is what a FORMT that answered **** left
 abbrev pub Formatted : (Call → Outcome) → List ℕ → List ℕ → Type 0
 Formatted answer s b =
-    (q : List ℕ) × (answer (callOf (text "FORMT") [] 0 [] [] [] s q) .status ≡ Done) × (b ≡ answer (callOf (text "FORMT") [] 0 [] [] [] s q) .base)
+    (q : List ℕ) × (answer (callOf (text "FORMT") noSet 0 noPath [] [] s q) .status ≡ Done) × (b ≡ answer (callOf (text "FORMT") noSet 0 noPath [] [] s q) .base)
 
 abbrev pub Start : (Call → Outcome) → List ℕ → List ℕ → Type 0
 Start answer s b = SignsOn answer s b ⊎ Formatted answer s b
@@ -30,17 +30,17 @@ Start answer s b = SignsOn answer s b ⊎ Formatted answer s b
 -- the plain lists that b starts with: its forward readings, and nothing where there is no master
 pub record StartLists (answer : Call → Outcome) (s b : List ℕ) (l : Lists) : Type 0 where
   pub read : (w : Place) (key : List ℕ) → IsPlace (schemaOf s) w → Exists answer s b w key
-      → Reads (readv answer s b w key) (link answer s b w key) (l (setAt (schemaOf s) w) (pathAt (schemaOf s) w) key)
+      → Reads (readv answer s b w key) (link (schemaOf s) w) (l (setAt (schemaOf s) w) (pathAt (schemaOf s) w) key)
   pub none : (w : Place) (key : List ℕ) → IsPlace (schemaOf s) w → (Exists answer s b w key → ⊥) → l (setAt (schemaOf s) w) (pathAt (schemaOf s) w) key ≡ []
 
 -- ---- what holds at the end, of one path and one key: xs is the plain list
 
 pub record Kept (answer : Call → Outcome) (s b : List ℕ) (w : Place) (key : List ℕ) (xs : List Point) : Type 0 where
   -- where the master exists, the chain reads forward as the plain list and backward as its reverse
-  pub forward : Exists answer s b w key → Reads (readv answer s b w key) (link answer s b w key) xs
-  pub backward : Exists answer s b w key → Reads (readr answer s b w key) (link answer s b w key) (reverse xs)
+  pub forward : Exists answer s b w key → Reads (readv answer s b w key) (link (schemaOf s) w) xs
+  pub backward : Exists answer s b w key → Reads (readr answer s b w key) (link (schemaOf s) w) (reverse xs)
   -- a sweep of the set comes to its end, and what it finds with that key are the points of the plain list, each once
-  pub sweep : (zs : List Point) × Reads (rdnxt answer s b w key) 0 zs × SameOnce (ofKey (entryAt (schemaOf s) w) (pathAt (schemaOf s) w) key zs) xs
+  pub sweep : (zs : List Point) × Reads (rdnxt answer s b w) 0 zs × SameOnce (ofKey (entryAt (schemaOf s) w) (pathAt (schemaOf s) w) key zs) xs
   -- where it does not exist there is nothing
   pub none : (Exists answer s b w key → ⊥) → xs ≡ []
 

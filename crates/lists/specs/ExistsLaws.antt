@@ -36,7 +36,7 @@ use Rattle.calls.specs.LadderLaws.{Passes}
 use Rattle.calls.specs.Outcome.{done, outcome}
 use Rattle.calls.specs.OutcomeLaws.{done-passed}
 use Rattle.lists.specs.Plain.{setOf, entryIn}
-use Rattle.lists.specs.Readings.{Place, setAt, entryAt, pathAt, IsPlace, Exists}
+use Rattle.lists.specs.Readings.{Place, setAt, entryAt, pathAt, IsPlace, Exists, noPath}
 use Rattle.lists.specs.Calm.{passes-right}
 use Rattle.lists.specs.Shown.{Ready}
 use Rattle.lists.specs.Outcomes.{outcome-done}
@@ -117,12 +117,12 @@ module _ (s b : List ℕ) (rows : ℕ → ℕ → List ℕ → List ℕ) (g : Re
   x = mastersOn t (entryAt t w) (pathAt t w)
 
   pub exists-says : Exists outcome s b w key → (m : ℕ) × Live b x m × (masterKey b x m ≡ key)
-  exists-says h = rw (p .masters) at (found-by (callOf (text "READM") (w .masters) 0 [] key (w .master-area) s b) refl h)
+  exists-says h = rw (p .masters) at (found-by (callOf (text "READM") (w .masters) 0 noPath key (w .master-area) s b) refl h)
 
   pub exists-holds : (m : ℕ) → Live b x m → masterKey b x m ≡ key → Exists outcome s b w key
   unfolding done
   exists-holds m l k =
-      let c = callOf (text "READM") (w .masters) 0 [] key (w .master-area) s b in
+      let c = callOf (text "READM") (w .masters) 0 noPath key (w .master-area) s b in
       let ok = g .world .ok in
       let n : setNamed t (w .masters) < t .masters = rw (p .masters) (place-master t ok w p) in
       let kind : isMaster (entryIn c) ≡ true = eq-eqb _ _ (ok .master (setNamed t (w .masters)) n .kind) in

@@ -1,5 +1,6 @@
 -- Condition 3, first page: plain lists. For each variable set, path and key a list of points, each with its record number and its area.
--- A step of them looks only at the call, its status and the reference that it returned. How a store keeps its records does not come in.
+-- A step of them looks only at the call, its status and the reference that it returned, and of the call not at the data base. How a store keeps
+-- its records does not come in.
 use Prim.Native.Nat.{ℕ}
 use mathlib.Core.Bool.{cond, _&&_}
 use mathlib.Core.List.{List, [], _∷_, _++_}
@@ -27,6 +28,7 @@ Lists = ℕ → ℕ → List ℕ → List Point
 
 -- ---- changes of one list
 
+-- x before, or behind, the record n; at the end where n is not in the list
 unfoldable pub before : ℕ → Point → List Point → List Point
 before n x [] = x ∷ []
 before n x (y ∷ ys) = cond (eqb (y .number) n) (x ∷ y ∷ ys) (y ∷ before n x ys)
@@ -39,7 +41,7 @@ unfoldable pub takenOut : ℕ → List Point → List Point
 takenOut n [] = []
 takenOut n (y ∷ ys) = cond (eqb (y .number) n) (takenOut n ys) (y ∷ takenOut n ys)
 
--- the record n has this area now
+-- the record n has this area now (WRITV is refused where a key differs, so only the D bytes are new)
 unfoldable pub rewritten : ℕ → List ℕ → List Point → List Point
 rewritten n area [] = []
 rewritten n area (y ∷ ys) = cond (eqb (y .number) n) (record { number = n; area = area }) y ∷ rewritten n area ys

@@ -74,12 +74,12 @@ module _ (s b : List ℕ) (rows : ℕ → ℕ → List ℕ → List ℕ) (g : Re
   low r l = (l .0 .0, omega (arith, g .world .ok .set i (p .set) .many))
 
   -- the reference may be LKxx, or the number of a record of the row
-  at-link : (back : Bool) → Followed true (call back (link outcome s b w key))
+  at-link : (back : Bool) → Followed true (call back (link (schemaOf s) w))
   at-link back =
       record {
         variable = place-variable t (g .world .ok) w p;
         path = p .path;
-        link = eq-eqb (link outcome s b w key) (link outcome s b w key) refl;
+        link = eq-eqb (link (schemaOf s) w) (link (schemaOf s) w) refl;
         form = refl;
         point = refl;
       }
@@ -89,7 +89,7 @@ module _ (s b : List ℕ) (rows : ℕ → ℕ → List ℕ → List ℕ) (g : Re
       record {
         variable = place-variable t (g .world .ok) w p;
         path = p .path;
-        link = ne-eqb r (link outcome s b w key) (λ q. omega (arith, low r (h .0)));
+        link = ne-eqb r (link (schemaOf s) w) (λ q. omega (arith, low r (h .0)));
         form = rw (le-leb 1 r (h .0 .0 .0), le-leb r (e .records) (h .0 .0 .1)) refl;
         point = rw (h .0 .1, eq-sameBytes _ _ (h .1)) refl;
       }
@@ -105,7 +105,7 @@ module _ (s b : List ℕ) (rows : ℕ → ℕ → List ℕ → List ℕ) (g : Re
     grants back r = granted (call back r) rows (pathOf e j .master .0) m g (place-master t (g .world .ok) w p) l k (p .set) (p .point-area)
 
     -- it comes to what the pointer leads to
-    given-link : (back : Bool) → givenBy (readOf back) (chainScene back (call back (link outcome s b w key))) (call back (link outcome s b w key)) ≡ lead back 0
+    given-link : (back : Bool) → givenBy (readOf back) (chainScene back (call back (link (schemaOf s) w))) (call back (link (schemaOf s) w)) ≡ lead back 0
     given-link true = rw (at-link true .link, grants true 0 .found) refl
     given-link false = rw (at-link false .link, grants false 0 .found) refl
 
@@ -137,15 +137,15 @@ module _ (s b : List ℕ) (rows : ℕ → ℕ → List ℕ → List ℕ) (g : Re
   chain-of : (m : ℕ) → Live b x m → masterKey b x m ≡ key → Seg (nextNode t b i j m) (priorNode t b i j m) 0 (rows i j key) 0
   chain-of m l k = rw k at (place-rows s b rows g w p .chain m l)
 
-  pub reads-forward : Exists outcome s b w key → Reads (readv outcome s b w key) (link outcome s b w key) (shown b e (rows i j key))
+  pub reads-forward : Exists outcome s b w key → Reads (readv outcome s b w key) (link (schemaOf s) w) (shown b e (rows i j key))
   reads-forward h =
       let o = exists-says s b rows g w p key h in
-      reads (o .0) (o .1) (o .2) false true (link outcome s b w key) 0 (rows i j key) (at-link false) (given-link (o .0) (o .1) (o .2) false)
+      reads (o .0) (o .1) (o .2) false true (link (schemaOf s) w) 0 (rows i j key) (at-link false) (given-link (o .0) (o .1) (o .2) false)
       (seg-run _ _ 0 (rows i j key) (chain-of (o .0) (o .1) (o .2))) (place-rows s b rows g w p .mine key)
 
-  pub reads-backward : Exists outcome s b w key → Reads (readr outcome s b w key) (link outcome s b w key) (shown b e (reverse (rows i j key)))
+  pub reads-backward : Exists outcome s b w key → Reads (readr outcome s b w key) (link (schemaOf s) w) (shown b e (reverse (rows i j key)))
   reads-backward h =
       let o = exists-says s b rows g w p key h in
-      reads (o .0) (o .1) (o .2) true true (link outcome s b w key) 0 (reverse (rows i j key)) (at-link true) (given-link (o .0) (o .1) (o .2) true)
+      reads (o .0) (o .1) (o .2) true true (link (schemaOf s) w) 0 (reverse (rows i j key)) (at-link true) (given-link (o .0) (o .1) (o .2) true)
       (seg-run _ _ 0 (reverse (rows i j key)) (seg-reverse _ _ 0 (rows i j key) 0 (chain-of (o .0) (o .1) (o .2))))
       (all-turned mine (rows i j key) [] (place-rows s b rows g w p .mine key) tt)

@@ -12,7 +12,7 @@ use Rattle.terms.specs.Terms.{endRef}
 use Rattle.terms.specs.declared.Status.the-variants.{Done, Damg}
 use Rattle.schema.specs.declared.Schema.{Schema}
 use Rattle.schema.specs.declared.Entry.{Entry}
-use Rattle.schema.specs.Decode.{entryOf, pathOf, setCount, schemaOf}
+use Rattle.schema.specs.Decode.{entryOf, pathOf, setCount}
 use Rattle.records.specs.Areas.{areaLength, areaKeyOn}
 use Rattle.calls.specs.Call.{Call, Outcome, callOf}
 use Rattle.calls.specs.Scene.{setNamed, pathNamed}
@@ -38,11 +38,11 @@ unfoldable pub run : (Call → Outcome) → List ℕ → List ℕ → List Reque
 run answer s b [] = b
 run answer s b (q ∷ qs) = run answer s (answer (under s b q) .base) qs
 
--- the plain lists at the end
+-- the plain lists at the end; the step of a call is not shown the data base
 unfoldable pub plain : (Call → Outcome) → List ℕ → List ℕ → List Request → Lists → Lists
 plain answer s b [] l = l
 plain answer s b (q ∷ qs) l =
-    plain answer s (answer (under s b q) .base) qs (step (under s b q) (answer (under s b q) .status) (answer (under s b q) .reference) l)
+    plain answer s (answer (under s b q) .base) qs (step (under s [] q) (answer (under s b q) .status) (answer (under s b q) .reference) l)
 
 -- no call of it says DAMG
 abbrev pub NoDamage : (Call → Outcome) → List ℕ → List ℕ → List Request → Type 0
@@ -52,7 +52,8 @@ NoDamage answer s b (q ∷ qs) = (answer (under s b q) .status ≢ Damg) × NoDa
 -- ---- readings
 
 -- The calls that `ask` makes, the first with the reference r, each later one with the reference that the call before it returned, give these
--- points one after the other, and then END.
+-- points one after the other, and then END. All of them are made on one data base: that reads leave it as it was is said by the sequences, in
+-- which reads are calls like any other.
 abbrev pub Reads : (ℕ → Outcome) → ℕ → List Point → Type 0
 Reads ask r [] = (ask r .status ≡ Done) × (ask r .reference ≡ endRef)
 Reads ask r (x ∷ xs) =
@@ -77,7 +78,11 @@ module _ (t : Schema) (w : Place) where
   abbrev pub pathAt : ℕ
   pathAt = pathNamed t entryAt (w .path)
 
--- the schema has the set and the path, and the areas are of the right length
+  -- LKxx of the path
+  abbrev pub link : ℕ
+  link = linkOf (pathOf entryAt pathAt)
+
+-- the schema has the set and the path, `masters` names the path's masters, and the areas are of the right length
 pub record IsPlace (t : Schema) (w : Place) : Type 0 where
   pub set : setAt t w < setCount t
   pub path : pathAt t w < entryAt t w .count
@@ -85,23 +90,27 @@ pub record IsPlace (t : Schema) (w : Place) : Type 0 where
   pub point-area : length (w .point-area) ≡ areaLength (entryAt t w)
   pub master-area : length (w .master-area) ≡ areaLength (entryOf t (setNamed t (w .masters)))
 
-module _ (answer : Call → Outcome) (s b : List ℕ) (w : Place) (key : List ℕ) where
-  -- "the master exists": READM answers ****
-  abbrev pub Exists : Type 0
-  Exists = answer (callOf (text "READM") (w .masters) 0 [] key (w .master-area) s b) .status ≡ Done
+-- the names of a set and of a path that a call does not need: blanks
+abbrev pub noSet : List ℕ
+noSet = text "    "
 
-  abbrev pub readv : ℕ → Outcome
-  readv r = answer (callOf (text "READV") (w .set) r (w .path) key (w .point-area) s b)
+abbrev pub noPath : List ℕ
+noPath = text "        "
 
-  abbrev pub readr : ℕ → Outcome
-  readr r = answer (callOf (text "READR") (w .set) r (w .path) key (w .point-area) s b)
-
+module _ (answer : Call → Outcome) (s b : List ℕ) (w : Place) where
   abbrev pub rdnxt : ℕ → Outcome
-  rdnxt r = answer (callOf (text "RDNXT") (w .set) r [] [] (w .point-area) s b)
+  rdnxt r = answer (callOf (text "RDNXT") (w .set) r noPath [] (w .point-area) s b)
 
-  -- LKxx of the path
-  abbrev pub link : ℕ
-  link = linkOf (pathOf (entryAt (schemaOf s) w) (pathAt (schemaOf s) w))
+  module _ (key : List ℕ) where
+    -- the master exists: READM answers ****
+    abbrev pub Exists : Type 0
+    Exists = answer (callOf (text "READM") (w .masters) 0 noPath key (w .master-area) s b) .status ≡ Done
+
+    abbrev pub readv : ℕ → Outcome
+    readv r = answer (callOf (text "READV") (w .set) r (w .path) key (w .point-area) s b)
+
+    abbrev pub readr : ℕ → Outcome
+    readr r = answer (callOf (text "READR") (w .set) r (w .path) key (w .point-area) s b)
 
 -- the points with this key on path j
 unfoldable pub ofKey : Entry → ℕ → List ℕ → List Point → List Point

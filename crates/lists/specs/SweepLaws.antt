@@ -119,9 +119,9 @@ module _ (t : Schema) (b : List ℕ) (i j : ℕ) (rows : List ℕ → List ℕ) 
 
 module _ (s b : List ℕ) (rows : ℕ → ℕ → List ℕ → List ℕ) (g : Ready s b rows) (w : Place) (p : IsPlace (schemaOf s) w) (key : List ℕ) where
   -- RDNXT from 0 on gives every live record of the set in ascending order, then END
-  pub sweep-reads : Reads (rdnxt outcome s b w key) 0 (shown b (entryAt (schemaOf s) w) (liveRecords b (entryAt (schemaOf s) w)))
+  pub sweep-reads : Reads (rdnxt outcome s b w) 0 (shown b (entryAt (schemaOf s) w) (liveRecords b (entryAt (schemaOf s) w)))
   sweep-reads =
-      swept b (entryAt (schemaOf s) w) (rdnxt outcome s b w key) (g .world .ok .set (setAt (schemaOf s) w) (p .set) .many)
+      swept b (entryAt (schemaOf s) w) (rdnxt outcome s b w) (g .world .ok .set (setAt (schemaOf s) w) (p .set) .many)
       (λ r l. sweep-gives _ sweeping (g .rules) (g .stands .sized) (p .set) (p .point-area) l)
 
   -- and those of the key are the points of the row, each once

@@ -1,7 +1,7 @@
 -- Condition 3, proved: `Condition3 outcome`. A data base that a sequence starts with stands for rows (sign-on accepts no other, FORMT leaves
 -- none but empty ones); each call keeps that and changes the rows as the plain step changes the lists; and readings show the rows.
 use Prim.Native.Nat.{ℕ, _*_}
-use mathlib.Core.Path.{_≡_, refl, sym, _∙_, fun-ext}
+use mathlib.Core.Path.{_≡_, refl, sym, ap, _∙_, fun-ext}
 use mathlib.Core.Logic.{_⊎_, inl, inr, ⊎-elim}
 use mathlib.Core.Bool.{true}
 use mathlib.Core.List.{List, [], _∷_, reverse, reverseAux}
@@ -33,10 +33,10 @@ use Rattle.plans.specs.Plan.{blocksSealed, formatted}
 use Rattle.lists.specs.Calm.{asked}
 use Rattle.lists.specs.Outcomes.{Rungs, climbed, outcome-done, done-is, done-rungs}
 use Rattle.lists.specs.Plain.{Lists}
-use Rattle.lists.specs.Readings.{Request, under, run, plain, NoDamage, Place, setAt, entryAt, pathAt, IsPlace, Exists, readv, link}
+use Rattle.lists.specs.Readings.{Request, under, run, plain, NoDamage, Place, setAt, entryAt, pathAt, IsPlace, Exists, readv, link, noSet, noPath}
 use Rattle.lists.specs.Condition.{SignsOn, Formatted, Start, StartLists, Kept, Condition3}
 use Rattle.lists.specs.Shown.{shown, Ready}
-use Rattle.lists.specs.ReadingLaws.{reads-one}
+use Rattle.lists.specs.ReadingLaws.{step-unseen, reads-one}
 use Rattle.lists.specs.PlaceLaws.{place-path}
 use Rattle.lists.specs.ExistsLaws.{row-or-exists}
 use Rattle.lists.specs.ReadLaws.{reads-forward, reads-backward}
@@ -90,14 +90,14 @@ format-leaves c q d = rw (done-is c d) (rw q refl)
 -- such a data base stands for rows
 signed-ready : (s b : List ℕ) → SignsOn outcome s b → Ready s b (rowsIn (schemaOf s) b)
 signed-ready s b d =
-    let c = callOf (text "SINON") [] 0 [] [] [] s b in
+    let c = callOf (text "SINON") noSet 0 noPath [] [] s b in
     let k = general c d in
     let w = world s (k .0) in
     record { rules = k .0; world = w; stands = sound-represents (schemaOf s) b w (k .1) (signs-sound c signing-on d) }
 
 format-ready : (s b : List ℕ) → Formatted outcome s b → Ready s b (λ i j key. [])
 format-ready s b f =
-    let c = callOf (text "FORMT") [] 0 [] [] [] s (f .0) in
+    let c = callOf (text "FORMT") noSet 0 noPath [] [] s (f .0) in
     let k = general c (f .1) in
     let w = world s (k .0) in
     record { rules = k .0; world = w; stands = rw (f .2, format-leaves c formatting (f .1)) (format-represents (schemaOf s) w) }
@@ -137,11 +137,11 @@ module _ (s b : List ℕ) (rows : AllRows) (g : Ready s b rows) where
 
   -- and no others
   starts-shown : (l : Lists) → StartLists outcome s b l → (w : Place) → IsPlace (schemaOf s) w → Shows (schemaOf s) b rows l (setAt (schemaOf s) w) (pathAt (schemaOf s) w)
-  starts-shown l h w p key = by (status? (outcome (callOf (text "READM") (w .masters) 0 [] key (w .master-area) s b) .status))
+  starts-shown l h w p key = by (status? (outcome (callOf (text "READM") (w .masters) 0 noPath key (w .master-area) s b) .status))
     where
       by : Exists outcome s b w key ⊎ (Exists outcome s b w key → ⊥)
           → l (setAt (schemaOf s) w) (pathAt (schemaOf s) w) key ≡ shown b (entryAt (schemaOf s) w) (rows (setAt (schemaOf s) w) (pathAt (schemaOf s) w) key)
-      by (inl k) = reads-one (readv outcome s b w key) (link outcome s b w key) _ _ (h .read w key p k) (reads-forward s b rows g w p key k)
+      by (inl k) = reads-one (readv outcome s b w key) (link (schemaOf s) w) _ _ (h .read w key p k) (reads-forward s b rows g w p key k)
       by (inr n) = h .none w key p n ∙ sym (shown-starts .none w key p n)
 
   -- what is kept of one path and key
@@ -174,7 +174,8 @@ module _ (s : List ℕ) where
   unfolding run plain
   ends b rows g [] l i j p h = (rows, g, h)
   ends b rows g (q ∷ qs) l i j p h =
-      ends (outcome (under s b q) .base) (call-turned (under s b q) rows g .now) (turned-ready s b rows g q) qs _ i j p (call-turned (under s b q) rows g .shows l i j p h)
+      ends (outcome (under s b q) .base) (call-turned (under s b q) rows g .now) (turned-ready s b rows g q) qs _ i j p
+      (λ key. ap (λ (m : Lists). m i j key) (sym (step-unseen s b q _ _ l)) ∙ call-turned (under s b q) rows g .shows l i j p h key)
 
   run-ready : (b : List ℕ) (rows : AllRows) → Ready s b rows → (qs : List Request) → (now : AllRows) × Ready s (run outcome s b qs) now
   unfolding run
@@ -188,7 +189,7 @@ condition-3 = record {
   starts = λ s b h. let r = start-ready s b h in (λ i j key. shown b (entryOf (schemaOf s) i) (r .0 i j key), shown-starts s b (r .0) (r .1));
   empty = λ s b h. shown-starts s b (λ i j key. []) (format-ready s b h);
   quiet = λ s b qs h. let r = start-ready s b h in quiet-run s b (r .0) (r .1) qs;
-  accepted = λ s b qs h. let r = start-ready s b h in let e = run-ready s b (r .0) (r .1) qs in signs (callOf (text "SINON") [] 0 [] [] [] s (run outcome s b qs)) (e .0) (e .1) signing-on;
+  accepted = λ s b qs h. let r = start-ready s b h in let e = run-ready s b (r .0) (r .1) qs in signs (callOf (text "SINON") noSet 0 noPath [] [] s (run outcome s b qs)) (e .0) (e .1) signing-on;
   kept = λ s b qs l h k w key p.
       let r = start-ready s b h in
       let i = setAt (schemaOf s) w in
