@@ -31,7 +31,7 @@ use Rattle.housing.specs.CallDeeds.{Known, some, CallDeeds, Came, told}
 use Rattle.housing.specs.Relinks.{Put, Relink, touched, deeds, links-stores, within, put-front, relinked}
 use Rattle.housing.specs.Images.{Image, image-valid, image-stands, image-links, newBetween, new-image, copy, copy-carried}
 
--- 15 has not come: with the home held there is a free record
+-- test 15, FULL, has passed: with the home held there is a free record
 not-full : (b : List ℕ) (e : Entry) (h : ℕ) → addMasterFull b e h ≡ false → isLive b e h ≡ true → isFull b e ≡ false
 unfolding addMasterFull
 not-full b e h room live = rw live at room

@@ -2,7 +2,7 @@
 -- put whole its key and its paths. What there is to show of them: they leave a sound set of masters, the masters of before in whatever records, and
 -- no free record with anything in it; it is shown of the records that are put whole. WRITM puts none, so every master stays where it is.
 use Prim.Native.Nat.{ℕ, _*_, _≤_, _<_}
-use mathlib.Core.Path.{_≡_, refl, sym, ap, _∙_}
+use mathlib.Core.Path.{_≡_, refl, sym, _∙_}
 use mathlib.Core.Logic.{_≢_, _⊎_, inl, inr, ⊎-elim}
 use mathlib.Core.Bool.{true, false}
 use mathlib.Core.List.{List, [], _∷_}
@@ -24,8 +24,8 @@ use Rattle.sound.specs.Sound.{setClean}
 use Rattle.sound.specs.KeyLaws.{Live, MasterSet}
 use Rattle.keeping.specs.Deeds.{Deed, fill, storesFor, after, AllValid, Misses, AllSpared, AllOff, AllZeroed}
 use Rattle.keeping.specs.Frames.{SameMasters, Carried, Bare, Moved}
-use Rattle.keeping.specs.DeedLaws.{word-missed, run-missed, state-missed, record-missed}
-use Rattle.keeping.specs.SettleLaws.{free-zero}
+use Rattle.keeping.specs.DeedLaws.{word-missed, run-missed, live-missed}
+use Rattle.keeping.specs.SettleLaws.{free-missed}
 use Rattle.housing.specs.RowLaws.{same-masters}
 
 -- what is known of the data base and of its set n before the call
@@ -61,7 +61,7 @@ pub record Within (t : Schema) (b : List ℕ) (n : ℕ) (ts : List ℕ) (ds : Li
 -- a record that is not put whole has its master as before
 module _ {t : Schema} {b : List ℕ} {n : ℕ} (known : Known t b n) {ts : List ℕ} {ds : List Deed} (w : Within t b n ts ds) (a : ℕ) (i : InSet (entryOf t n) a) (f : Fresh a ts) where
   pub kept-live : isLive (after t b ds) (entryOf t n) a ≡ isLive b (entryOf t n) a
-  kept-live = ap (λ (x : ℕ). eqb x 1) (state-missed (known .ok) b (known .sized) ds n a (w .valid) (counted known) i (w .spared a f))
+  kept-live = live-missed (known .ok) b (known .sized) ds n a (w .valid) (counted known) i (w .spared a f)
 
   pub kept-carried : Carried t b (after t b ds) n a a
   kept-carried =
@@ -133,8 +133,7 @@ module _ {t : Schema} {b : List ℕ} {n : ℕ} (known : Known t b n) where
       untouched : (r : ℕ) → InSet (entryOf t n) r → Fresh r ts → isLive (after t b ds) (entryOf t n) r ≡ false → allZero (recordOf (after t b ds) (entryOf t n) r) ≡ true
       untouched r i f dead =
           let was = sym (kept-live known w r i f) ∙ dead in
-          rw (record-missed (known .ok) b (known .sized) ds n r (w .valid) (counted known) i (w .off n r (λ z. (f, was))))
-          (free-zero (known .ok) b (known .sized) n r (counted known) i (known .clean) was)
+          free-missed (known .ok) b (known .sized) ds n r (w .valid) (counted known) i (known .clean) was (w .off n r (λ z. (f, was)))
 
   -- ---- WRITM
 

@@ -21,9 +21,9 @@ use Rattle.sound.specs.Sound.{homeList}
 use Rattle.sound.specs.KeyLaws.{Live, MasterSet}
 use Rattle.sound.specs.HomeLaws.{OfHome}
 use Rattle.housing.specs.LinkedLists.{none-first}
-use Rattle.housing.specs.RowLaws.{HomeRow, Place, own-holds, none-list, no-zeros, rows-of, own-row, place-in-list}
+use Rattle.housing.specs.RowLaws.{HomeRow, HomePlace, own-holds, none-list, no-zeros, rows-of, own-row, place-in-list}
 use Rattle.housing.specs.Neighbours.{stranger, Second, first-home, second}
-use Rattle.housing.specs.TouchLaws.{Stands, Kept, Origin, Changed, still-full, changed-sound}
+use Rattle.housing.specs.TouchLaws.{Stands, Spliced, Origin, HomeChanged, still-full, changed-sound}
 
 module _ (b c : List ℕ) (e : Entry) (some : 1 ≤ e .records) (ms : MasterSet b e) where
   -- the home of a record that stands with a key is the key's
@@ -38,12 +38,12 @@ module _ (b c : List ℕ) (e : Entry) (some : 1 ≤ e .records) (ms : MasterSet 
 
     -- in the free record x, behind the last of its home's list
     pub added : (x l : ℕ) → InSet e x → isLive b e x ≡ false → l ≡ lastOr 0 (homeList b e (homeIn e key)) → (l ≡ 0 → x ≡ homeIn e key)
-        → Stands c e x key 0 l → Kept b c e (x ∷ []) l 0 (x ∷ []) → MasterSet c e
+        → Stands c e x key 0 l → Spliced b c e (x ∷ []) l 0 (x ∷ []) → MasterSet c e
     added x l ix free el first new k =
         changed-sound b c e some ms (x ∷ []) l 0 (homeIn e key) (homeList b e (homeIn e key)) [] (x ∷ []) [] change x (λ o. o) (λ r f. refl)
         (λ o. new-origin x 0 l (λ o. o) new, tt) (λ y ne. inr (λ o. ne (home-of x y 0 l key new o), tt))
       where
-        change : Changed b c e (x ∷ []) l 0 (homeIn e key) (homeList b e (homeIn e key)) [] (x ∷ []) []
+        change : HomeChanged b c e (x ∷ []) l 0 (homeIn e key) (homeList b e (homeIn e key)) [] (x ∷ []) []
         change = record {
           kept = k;
           home = home-in-set e key some;
@@ -61,7 +61,7 @@ module _ (b c : List ℕ) (e : Entry) (some : 1 ≤ e .records) (ms : MasterSet 
     -- in its home h, from which a stranger moves to the free record x and stays in its own home's list
     pub displaced : (h x : ℕ) → h ≡ homeIn e key → Live b e h → heldByOwn b e h ≡ false → InSet e x → isLive b e x ≡ false
         → Stands c e h key 0 0 → Stands c e x (masterKey b e h) (rootNext b e h) (rootPrior b e h)
-        → Kept b c e (x ∷ h ∷ []) (rootPrior b e h) (rootNext b e h) (x ∷ []) → MasterSet c e
+        → Spliced b c e (x ∷ h ∷ []) (rootPrior b e h) (rootNext b e h) (x ∷ []) → MasterSet c e
     displaced h x hk live away ix free new moved k =
         changed-sound b c e some ms (x ∷ h ∷ []) (rootPrior b e h) (rootNext b e h) (ownHome b e h) (at .0) (h ∷ []) (x ∷ []) (at .1) change h to
         (λ r f. rw (ne-eqb r h (f .1 .0)) refl) (λ o. inr (h, live, moved .key, rw (eq-eqb h h refl) refl), (λ o. new-origin h 0 0 to new, tt))
@@ -70,7 +70,7 @@ module _ (b c : List ℕ) (e : Entry) (some : 1 ≤ e .records) (ms : MasterSet 
         to : ℕ → ℕ
         to o = cond (eqb o h) x o
 
-        at : Place b e (homeList b e (ownHome b e h)) h
+        at : HomePlace b e (homeList b e (ownHome b e h)) h
         at = place-in-list b e some ms h live
 
         strange : h ≢ ownHome b e h
@@ -82,7 +82,7 @@ module _ (b c : List ℕ) (e : Entry) (some : 1 ≤ e .records) (ms : MasterSet 
         its : (y : ℕ) → OfHome c e y x → y ≡ ownHome b e h
         its y o = home-of x y (rootNext b e h) (rootPrior b e h) (masterKey b e h) moved o
 
-        change : Changed b c e (x ∷ h ∷ []) (rootPrior b e h) (rootNext b e h) (ownHome b e h) (at .0) (h ∷ []) (x ∷ []) (at .1)
+        change : HomeChanged b c e (x ∷ h ∷ []) (rootPrior b e h) (rootNext b e h) (ownHome b e h) (at .0) (h ∷ []) (x ∷ []) (at .1)
         change = record {
           kept = k;
           home = home-in-set e (masterKey b e h) some;
@@ -113,7 +113,7 @@ module _ (b c : List ℕ) (e : Entry) (some : 1 ≤ e .records) (ms : MasterSet 
   -- at its home h: its first synonym moves there
   pub promoted : (h : ℕ) → Live b e h → ownHome b e h ≡ h → rootNext b e h ≢ 0
       → Stands c e h (masterKey b e (rootNext b e h)) (rootNext b e (rootNext b e h)) 0 → isLive c e (rootNext b e h) ≡ false
-      → Kept b c e (h ∷ rootNext b e h ∷ []) 0 (rootNext b e (rootNext b e h)) (h ∷ []) → MasterSet c e
+      → Spliced b c e (h ∷ rootNext b e h ∷ []) 0 (rootNext b e (rootNext b e h)) (h ∷ []) → MasterSet c e
   promoted h live own more moved gone k =
       changed-sound b c e some ms (h ∷ rootNext b e h ∷ []) 0 (rootNext b e (rootNext b e h)) h [] (h ∷ rootNext b e h ∷ []) (h ∷ []) (at .0) change 0 to
       (λ r f. rw (ne-eqb r (rootNext b e h) (f .1 .0)) refl)
@@ -132,7 +132,7 @@ module _ (b c : List ℕ) (e : Entry) (some : 1 ≤ e .records) (ms : MasterSet 
       dead : Live c e (rootNext b e h) → ⊥
       dead l = never-both _ (l .1) gone
 
-      change : Changed b c e (h ∷ rootNext b e h ∷ []) 0 (rootNext b e (rootNext b e h)) h [] (h ∷ rootNext b e h ∷ []) (h ∷ []) (at .0)
+      change : HomeChanged b c e (h ∷ rootNext b e h ∷ []) 0 (rootNext b e (rootNext b e h)) h [] (h ∷ rootNext b e h ∷ []) (h ∷ []) (at .0)
       change = record {
         kept = k;
         home = live .0;
@@ -149,18 +149,18 @@ module _ (b c : List ℕ) (e : Entry) (some : 1 ≤ e .records) (ms : MasterSet 
 
   -- elsewhere, or with no synonym: its neighbours become each other's
   pub unlinked : (r : ℕ) → Live b e r → (r ≡ ownHome b e r → rootNext b e r ≡ 0) → isLive c e r ≡ false
-      → Kept b c e (r ∷ []) (rootPrior b e r) (rootNext b e r) [] → MasterSet c e
+      → Spliced b c e (r ∷ []) (rootPrior b e r) (rootNext b e r) [] → MasterSet c e
   unlinked r live alone gone k =
       changed-sound b c e some ms (r ∷ []) (rootPrior b e r) (rootNext b e r) (ownHome b e r) (at .0) (r ∷ []) [] (at .1) change 0 (λ o. o) (λ r f. refl)
       (λ l. absurd (dead l), tt) (λ x ne. inr (λ o. dead (o .0), tt))
     where
-      at : Place b e (homeList b e (ownHome b e r)) r
+      at : HomePlace b e (homeList b e (ownHome b e r)) r
       at = place-in-list b e some ms r live
 
       dead : Live c e r → ⊥
       dead l = never-both _ (l .1) gone
 
-      change : Changed b c e (r ∷ []) (rootPrior b e r) (rootNext b e r) (ownHome b e r) (at .0) (r ∷ []) [] (at .1)
+      change : HomeChanged b c e (r ∷ []) (rootPrior b e r) (rootNext b e r) (ownHome b e r) (at .0) (r ∷ []) [] (at .1)
       change = record {
         kept = k;
         home = home-in-set e (masterKey b e r) some;

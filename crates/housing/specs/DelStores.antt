@@ -32,9 +32,10 @@ use Rattle.housing.specs.Neighbours.{sides, second}
 use Rattle.housing.specs.ChangeLaws.{promoted, unlinked}
 use Rattle.housing.specs.CallDeeds.{Known, counted, some, CallDeeds, told}
 use Rattle.housing.specs.Relinks.{Put, Relink, touched, deeds, links-stores, within, put-front, put-back, relinked}
-use Rattle.housing.specs.Images.{live-is, image-valid, image-stands, copy-first, copy-carried}
+use Rattle.keeping.specs.HeldLaws.{live-is}
+use Rattle.housing.specs.Images.{image-valid, image-stands, copy-first, copy-carried}
 
--- ---- 14 has not come: the master has no points
+-- ---- test 14, IMDL, has passed: the master has no points
 
 -- none on path j of set i
 abbrev spare : Schema → List ℕ → ℕ → ℕ → ℕ → ℕ → Bool

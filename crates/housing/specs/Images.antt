@@ -1,10 +1,9 @@
 -- The bytes of a live master, and what stands in a record that holds them: its key, its ROOT pointers, and first and last of each path to it. Such
 -- bytes are those of a new master, those of a master of before (ADD-M's stranger), and those with ROOT prior 0 (DEL-M's synonym).
-use Prim.Native.Nat.{ℕ, _+_, _≤_, _<_}
+use Prim.Native.Nat.{ℕ, _+_, _≤_}
 use mathlib.Core.Path.{_≡_, refl, sym, ap, _∙_}
 use mathlib.Core.List.{List}
 use native.Mathlib.Omega.{arith}
-use lib.Dec.{eqb}
 use lib.ListN.{length}
 use borrow.Author.Tests.{eqb-true, eq-eqb}
 use Rattle.octets.specs.Octets.{byteAt, run, wordAt, wordBytes, setWord, zeros}
@@ -13,13 +12,13 @@ use Rattle.octets.specs.SpliceLaws.{length-run, run-splice-out}
 use Rattle.octets.specs.WordLaws.{length-setWord, getD-setWord-out, wordAt-setWord, wordAt-setWord-other}
 use Rattle.schema.specs.declared.Entry.{Entry}
 use Rattle.schema.specs.declared.Schema.{Schema}
-use Rattle.schema.specs.Decode.{entryOf, pathOf, setCount}
+use Rattle.schema.specs.Decode.{entryOf, pathOf}
 use Rattle.schema.specs.Place.{InSet, placeOf, recordOf}
-use Rattle.schema.specs.Guarantee.{SchemaOk, IsPathOf}
+use Rattle.schema.specs.Guarantee.{IsPathOf}
 use Rattle.records.specs.declared.Link.{Link}
-use Rattle.records.specs.Records.{isLive, rootNext, rootPrior, masterKey, firstOn, lastOn}
-use Rattle.records.specs.Address.{Field, root-next, root-prior, own-key, first, last, offsetOf, sizeOf, HasField, getRun, getWord}
-use Rattle.records.specs.AddressLaws.{address, inside-base}
+use Rattle.records.specs.Records.{rootNext, rootPrior, masterKey, firstOn, lastOn}
+use Rattle.records.specs.Address.{root-next, root-prior, own-key, first, last}
+use Rattle.records.specs.AddressLaws.{inside-base}
 use Rattle.records.specs.WholeRecords.{getRun-recordOf, getWord-recordOf, stateOf-recordOf}
 use Rattle.records.specs.FieldPlaces.{record-least}
 use Rattle.records.specs.FillerLaws.{fillerOf-recordOf}
@@ -27,23 +26,12 @@ use Rattle.records.specs.KindLaws.{is-master}
 use Rattle.records.specs.Areas.{areaLength, areaMasterKey, newMaster}
 use Rattle.areas.specs.NewLaws.{length-newMaster, new-master-state, new-master-next, new-master-prior, new-master-key, new-master-link}
 use Rattle.sound.specs.KeyLaws.{Live}
+use Rattle.keeping.specs.HeldLaws.{live-is, run-is, word-is}
 use Rattle.keeping.specs.SettleLaws.{filler-zero}
 use Rattle.keeping.specs.Deeds.{whole, Valid}
 use Rattle.keeping.specs.Frames.{Carried}
 use Rattle.housing.specs.TouchLaws.{Stands}
 use Rattle.housing.specs.CallDeeds.{Known, counted, many}
-
--- ---- a record that holds the bytes ys
-
-module _ {t : Schema} (ok : SchemaOk t) (c : List ℕ) (k r : ℕ) (ys : List ℕ) (l : k < setCount t) (is : recordOf c (entryOf t k) r ≡ ys) where
-  pub live-is : isLive c (entryOf t k) r ≡ eqb (byteAt ys 0) 1
-  live-is = ap (λ (s : ℕ). eqb s 1) (sym (stateOf-recordOf c k r ok l) ∙ ap (λ xs. byteAt xs 0) is)
-
-  pub run-is : (f : Field) → HasField t k f → getRun t c (address k r f) ≡ run ys (offsetOf t (entryOf t k) f) (sizeOf t (entryOf t k) f)
-  run-is f h = sym (getRun-recordOf c k r f ok l h) ∙ ap (λ xs. run xs (offsetOf t (entryOf t k) f) (sizeOf t (entryOf t k) f)) is
-
-  pub word-is : (f : Field) → HasField t k f → sizeOf t (entryOf t k) f ≡ 4 → getWord t c (address k r f) ≡ wordAt ys (offsetOf t (entryOf t k) f)
-  word-is f h s = sym (getWord-recordOf c k r f ok l h s) ∙ ap (λ xs. wordAt xs (offsetOf t (entryOf t k) f)) is
 
 -- ---- the bytes of a master
 

@@ -1,31 +1,30 @@
 -- ADD-M, DEL-M and WRITM keep the state: the set of masters is sound afterwards, its masters are those of before (but for one that came or went
 -- without points), every check is true, every record is clean, and everything outside the set is as it was: the records of other sets have the
 -- bytes that they had, and so the other masters, the heads of paths to them, the points of every path, and the areas of the variable sets.
-use Prim.Native.Nat.{ℕ, zero, suc, _+_, _≤_, _<_}
+use Prim.Native.Nat.{ℕ, _≤_, _<_}
 use mathlib.Core.Path.{_≡_, refl, sym, _∙_}
 use mathlib.Core.Logic.{_≢_, ⊎-elim}
 use mathlib.Core.Bool.{true, false}
 use mathlib.Core.List.{List, [], _∷_}
 use native.Mathlib.Omega.{arith}
-use lib.ListN.{drop}
 use Rattle.octets.specs.Octets.{allZero}
 use Rattle.octets.specs.SpliceLaws.{length-run}
 use Rattle.octets.specs.BelowLaws.{same?}
 use Rattle.schema.specs.declared.Schema.{Schema}
-use Rattle.schema.specs.Decode.{entryOf, pathOf, pathsOf, setCount}
+use Rattle.schema.specs.Decode.{entryOf, pathOf, setCount}
 use Rattle.schema.specs.Place.{InSet, recordOf}
 use Rattle.schema.specs.Guarantee.{IsPathOf}
 use Rattle.records.specs.Records.{isLive, masterKey}
 use Rattle.records.specs.Address.{Field, root-next, root-prior, own-key, body, key, prior, next, first, last, sizeOf, HasField, getRun, getWord}
 use Rattle.records.specs.AddressLaws.{address}
 use Rattle.records.specs.KindLaws.{is-variable}
-use Rattle.records.specs.Areas.{keysOn, areaOf, areaKeys, areaBody}
-use Rattle.areas.specs.AreaLaws.{paths-step, paths-done}
+use Rattle.records.specs.Areas.{areaOf, areaKeys, areaBody}
 use Rattle.plans.specs.Plan.{Store, storeRun, blocksSealed, committed}
 use Rattle.masters.specs.Find.{find, homeIn, recordFound, isAt}
 use Rattle.masters.specs.Root.{addMasterStores, delMasterStores}
 use Rattle.sound.specs.Sound.{setClean}
 use Rattle.sound.specs.KeyLaws.{Live}
+use Rattle.keeping.specs.AreaMade.{area-same}
 use Rattle.keeping.specs.Deeds.{Deed, after}
 use Rattle.keeping.specs.Frames.{SameMasters, SameHeads, SamePoints}
 use Rattle.keeping.specs.Rows.{World, Represents}
@@ -34,7 +33,7 @@ use Rattle.keeping.specs.DeedLaws.{record-missed, length-after}
 use Rattle.keeping.specs.SettleLaws.{free-zero, storable, sealed-after, clean-after}
 use Rattle.housing.specs.FindLaws.{find-at}
 use Rattle.housing.specs.CallDeeds.{Known, Within, some, CallDeeds, write-deeds}
-use Rattle.housing.specs.Images.{live-is, run-is, word-is}
+use Rattle.keeping.specs.HeldLaws.{live-is, run-is, word-is}
 use Rattle.housing.specs.AddStores.{add-deeds}
 use Rattle.housing.specs.DelStores.{del-deeds}
 use Rattle.housing.specs.MasterStep.{MasterStep}
@@ -60,16 +59,9 @@ module _ {t : Schema} (w : World t) {b : List ℕ} {n : ℕ} (known : Known t b 
     other-empty clean dead = rw same (free-zero (w .ok) b (known .sized) k r l i clean (sym same-live ∙ dead))
 
     -- its area is made of its keys and its D bytes
-    same-keys : t .masters ≤ k → (m j : ℕ) → j + m ≡ entryOf t k .count
-        → keysOn (after t b ds) (entryOf t k) r (drop j (pathsOf (entryOf t k))) ≡ keysOn b (entryOf t k) r (drop j (pathsOf (entryOf t k)))
-    unfolding keysOn
-    same-keys v zero j h = rw (paths-done (entryOf t k) (w .fields k l) j (omega arith)) refl
-    same-keys v (suc m) j h =
-        rw (paths-step (entryOf t k) (w .fields k l) j (omega arith), same-run (key j) (v, l, omega arith), same-keys v m (j + 1) (omega arith)) refl
-
     other-area : t .masters ≤ k → areaOf (after t b ds) (entryOf t k) r ≡ areaOf b (entryOf t k) r
-    unfolding areaOf
-    other-area v = rw (is-variable t (w .ok) k v l, same-keys v (entryOf t k .count) 0 (omega arith), same-run body l) refl
+    other-area v =
+        area-same b (after t b ds) (entryOf t k) r (w .fields k l) (is-variable t (w .ok) k v l) (λ j h. same-run (key j) (v, l, h)) (same-run body l)
 
   -- ---- masters, heads and points
 

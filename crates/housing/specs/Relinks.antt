@@ -1,4 +1,5 @@
--- What ADD-M and DEL-M store, as deeds: whole records put, ROOT next of one record and ROOT prior of another set (none for 0), whole records put.
+-- What ADD-M and DEL-M store, as deeds: whole records put; then ROOT next of one record and ROOT prior of another, each where there is such a
+-- record; then whole records put.
 -- What they leave of the records that are not put; a record that is put and not reached again holds its bytes.
 use Prim.Native.Nat.{ℕ, _≤_}
 use mathlib.Core.Path.{_≡_, refl, sym, ap, _∙_}
@@ -22,7 +23,7 @@ use Rattle.sound.specs.KeyLaws.{Live}
 use Rattle.keeping.specs.Deeds.{Deed, point, whole, storeOf, storesFor, after, AllValid, Misses, AllSpared, AllOff, AllZeroed}
 use Rattle.keeping.specs.DeedLaws.{valid-append, zeroed-append, storesFor-append, word-missed, word-pointed, record-whole}
 use Rattle.housing.specs.Neighbours.{Side, side-small}
-use Rattle.housing.specs.TouchLaws.{Kept}
+use Rattle.housing.specs.TouchLaws.{Spliced}
 use Rattle.housing.specs.CallDeeds.{Known, counted, many, Within, kept-live, kept-carried}
 
 -- a record number, and the bytes that the record becomes
@@ -160,7 +161,7 @@ module _ {t : Schema} {b : List ℕ} {n : ℕ} (known : Known t b n) where
         rw q (word-pointed (known .ok) b (known .sized) us (address n p f) v vs (rw q at (w .valid)) x)
 
     pub relinked : Fresh (s .before) (numbers (s .back)) → Fresh (s .behind) (numbers (s .back))
-        → Kept b (after t b (deeds n s)) (entryOf t n) (touched s) (s .before) (s .behind) (s .between)
+        → Spliced b (after t b (deeds n s)) (entryOf t n) (touched s) (s .before) (s .behind) (s .between)
     relinked fp fq =
         let l = counted known in
         record {

@@ -43,8 +43,8 @@ pub record HomeRows (b : List ℕ) (e : Entry) (homes : ℕ → List ℕ) : Type
   pub row : (h : ℕ) → InSet e h → HomeRow b e h (homes h)
 
 -- where the record r stands in the list rs
-abbrev pub Place : List ℕ → Entry → List ℕ → ℕ → Type 0
-Place b e rs r = (us vs : List ℕ) × (rs ≡ us ++ (r ∷ vs)) × (rootPrior b e r ≡ lastOr 0 us) × (rootNext b e r ≡ headOr 0 vs)
+abbrev pub HomePlace : List ℕ → Entry → List ℕ → ℕ → Type 0
+HomePlace b e rs r = (us vs : List ℕ) × (rs ≡ us ++ (r ∷ vs)) × (rootPrior b e r ≡ lastOr 0 us) × (rootNext b e r ≡ headOr 0 vs)
 
 -- the walk to the end of a chain comes to its last
 tail-chained : (n : ℕ) (b : List ℕ) (e : Entry) (p r : ℕ) (rs : List ℕ) → Chained (rootNext b e) (rootPrior b e) p (r ∷ rs) 0 → NoZero rs → length rs ≤ n
@@ -102,7 +102,7 @@ module _ (b : List ℕ) (e : Entry) (h : ℕ) (rs : List ℕ) (row : HomeRow b e
       let s : length (h ∷ w .0) ≤ e .records = rw (w .1) at row-short in
       rw (w .1) (tail-chained (e .records) b e 0 h (w .0) (rw (w .1) at (row .chain)) (z .1) (omega arith))
 
-  row-place : (r : ℕ) → OfHome b e h r → Place b e rs r
+  row-place : (r : ℕ) → OfHome b e h r → HomePlace b e rs r
   row-place r o =
       let t = split-in r rs (row .full r o) in
       let k = chained-right (rootNext b e) (rootPrior b e) 0 (t .0) (r ∷ t .1) 0 (rw (t .2) at (row .chain)) in
@@ -149,7 +149,7 @@ module _ (b : List ℕ) (e : Entry) (some : 1 ≤ e .records) (ms : MasterSet b 
   pub own-row : HomeRow b e (ownHome b e r) (homeList b e (ownHome b e r))
   own-row = rows-of b e some ms .row (ownHome b e r) (home-in-set e (masterKey b e r) some)
 
-  pub place-in-list : Live b e r → Place b e (homeList b e (ownHome b e r)) r
+  pub place-in-list : Live b e r → HomePlace b e (homeList b e (ownHome b e r)) r
   place-in-list l = row-place b e (ownHome b e r) (homeList b e (ownHome b e r)) own-row r (l, refl)
 
 -- ---- what is as it was

@@ -30,7 +30,7 @@ pub record Stands (c : List ℕ) (e : Entry) (r : ℕ) (k : List ℕ) (n p : ℕ
   pub prior : rootPrior c e r ≡ p
 
 -- between the records l and n, each of them 0 for none, come the records ms; all else is as it was but in the records ts
-pub record Kept (b c : List ℕ) (e : Entry) (ts : List ℕ) (l n : ℕ) (ms : List ℕ) : Type 0 where
+pub record Spliced (b c : List ℕ) (e : Entry) (ts : List ℕ) (l n : ℕ) (ms : List ℕ) : Type 0 where
   pub live-else : (a : ℕ) → InSet e a → Fresh a ts → isLive c e a ≡ isLive b e a
   pub key-else : (a : ℕ) → InSet e a → Fresh a ts → masterKey c e a ≡ masterKey b e a
   pub next-else : (a : ℕ) → InSet e a → Fresh a ts → a ≢ l → rootNext c e a ≡ rootNext b e a
@@ -62,8 +62,8 @@ module _ (b c : List ℕ) (e : Entry) (ms : MasterSet b e) (new : ℕ) (to : ℕ
 
 -- Between l and n the list of the home g has the middle mid, which becomes mid′; each of the touched records ts is of the middle or free before,
 -- and of the new middle if it is g's after.
-pub record Changed (b c : List ℕ) (e : Entry) (ts : List ℕ) (l n g : ℕ) (us mid mid′ vs : List ℕ) : Type 0 where
-  pub kept : Kept b c e ts l n mid′
+pub record HomeChanged (b c : List ℕ) (e : Entry) (ts : List ℕ) (l n g : ℕ) (us mid mid′ vs : List ℕ) : Type 0 where
+  pub kept : Spliced b c e ts l n mid′
   -- the list before
   pub home : InSet e g
   pub list : homeList b e g ≡ us ++ (mid ++ vs)
@@ -81,7 +81,7 @@ abbrev SomeRow : List ℕ → Entry → ℕ → Type 0
 SomeRow c e h = (rs : List ℕ) × (InSet e h → HomeRow c e h rs)
 
 module _ (b c : List ℕ) (e : Entry) (some : 1 ≤ e .records) (ms : MasterSet b e) (ts : List ℕ) (l n g : ℕ) (us mid mid′ vs : List ℕ)
-    (w : Changed b c e ts l n g us mid mid′ vs) where
+    (w : HomeChanged b c e ts l n g us mid mid′ vs) where
   abbrev homes : ℕ → List ℕ
   homes = homeList b e
 

@@ -5,8 +5,9 @@ use mathlib.Core.Path.{_≡_, refl, sym, ap}
 use mathlib.Core.Logic.{_≢_, ⊎-elim}
 use mathlib.Core.List.{List, [], _∷_, _++_, append-nil, append-assoc}
 use native.Mathlib.Omega.{arith}
+use lib.Dec.{eqb}
 use lib.ListN.{length}
-use Rattle.octets.specs.Octets.{byteAt, run, wordAt, wordBytes}
+use Rattle.octets.specs.Octets.{wordBytes}
 use Rattle.octets.specs.Below.{concatBelow}
 use Rattle.octets.specs.BelowLaws.{same?}
 use Rattle.blocks.specs.Blocks.{seal}
@@ -15,14 +16,14 @@ use Rattle.schema.specs.declared.Schema.{Schema}
 use Rattle.schema.specs.Decode.{entryOf, setCount}
 use Rattle.schema.specs.Place.{InSet, placeOf, recordOf}
 use Rattle.schema.specs.Guarantee.{SchemaOk}
-use Rattle.records.specs.Records.{stateOf}
-use Rattle.records.specs.Address.{Field, body, Address, offsetOf, sizeOf, HasField, IsAddress, getRun, getWord}
+use Rattle.records.specs.Records.{stateOf, isLive}
+use Rattle.records.specs.Address.{body, Address, IsAddress, getRun, getWord}
 use Rattle.records.specs.AddressLaws.{address, inside-off-checks}
 use Rattle.records.specs.FieldLaws.{IsWord, putRun-word, getWord-putWord, getWord-putRun-other, getWord-seal, getRun-putRun, getRun-putRun-other, getRun-seal, stateOf-putRun, stateOf-seal}
-use Rattle.records.specs.WholeRecords.{getWord-putRecord, getWord-putRecord-other, getRun-putRecord, getRun-putRecord-other, stateOf-putRecord, stateOf-putRecord-other, recordOf-putRecord, recordOf-putRecord-other, recordOf-putRun-other}
+use Rattle.records.specs.WholeRecords.{getWord-putRecord-other, getRun-putRecord-other, stateOf-putRecord-other, recordOf-putRecord, recordOf-putRecord-other, recordOf-putRun-other}
 use Rattle.plans.specs.PlanLaws.{length-committed}
 use Rattle.keeping.specs.Deeds.{Deed, point, whole, fill, storesFor, after, Valid, AllValid, Miss, Misses, Spared, AllSpared, Off, AllOff, Zeroed, AllZeroed}
-use Rattle.keeping.specs.Holds.{done, valid-at, kept, put}
+use Rattle.keeping.specs.Holds.{deedDone, valid-at, kept, put}
 
 -- ---- lists of deeds
 
@@ -80,25 +81,25 @@ storesFor-below t f (suc n) = rw (storesFor-append t (concatBelow f n) (f n), st
 -- ---- what one deed leaves elsewhere
 
 module _ {t : Schema} (ok : SchemaOk t) where
-  word-left : (a : Address) → IsWord t a → (d : Deed) (c : List ℕ) → Valid t d → Miss a d → getWord t (done t c d) a ≡ getWord t c a
+  word-left : (a : Address) → IsWord t a → (d : Deed) (c : List ℕ) → Valid t d → Miss a d → getWord t (deedDone t c d) a ≡ getWord t c a
   word-left a ia (point p v) c h m = getWord-putRun-other c p a (wordBytes v) ok (h .0 .0) ia (sym (h .0 .1)) m
   word-left a ia (whole n r ys) c h m = getWord-putRecord-other c n r ys ok h a ia m
   word-left a ia (fill n r ys) c h m = getWord-putRun-other c (address n r body) a ys ok (h .0) ia (h .1) m
 
-  run-left : (a : Address) → IsAddress t a → (d : Deed) (c : List ℕ) → Valid t d → Miss a d → getRun t (done t c d) a ≡ getRun t c a
+  run-left : (a : Address) → IsAddress t a → (d : Deed) (c : List ℕ) → Valid t d → Miss a d → getRun t (deedDone t c d) a ≡ getRun t c a
   run-left a ia (point p v) c h m = getRun-putRun-other c p a (wordBytes v) ok (h .0 .0) ia (sym (h .0 .1)) m
   run-left a ia (whole n r ys) c h m = getRun-putRecord-other c n r ys ok h a ia m
   run-left a ia (fill n r ys) c h m = getRun-putRun-other c (address n r body) a ys ok (h .0) ia (h .1) m
 
   module _ (n r : ℕ) (l : n < setCount t) (in-set : InSet (entryOf t n) r) where
-    state-left : (d : Deed) (c : List ℕ) → Valid t d → Spared n r d → stateOf (done t c d) (entryOf t n) r ≡ stateOf c (entryOf t n) r
+    state-left : (d : Deed) (c : List ℕ) → Valid t d → Spared n r d → stateOf (deedDone t c d) (entryOf t n) r ≡ stateOf c (entryOf t n) r
     state-left (point p v) c h m =
         stateOf-putRun c n r ok l in-set p (wordBytes v) (h .0 .0) (sym (h .0 .1)) (λ e. let z : _≡_ {A = ℕ} 1 4 = cc in omega arith)
     state-left (whole k q ys) c h m = stateOf-putRecord-other c k q ys ok h n r l in-set m
     state-left (fill k q ys) c h m =
         stateOf-putRun c n r ok l in-set (address k q body) ys (h .0) (h .1) (λ e. let z : _≡_ {A = ℕ} 0 1 = cc in omega arith)
 
-    record-left : (d : Deed) (c : List ℕ) → Valid t d → Off n r d → recordOf (done t c d) (entryOf t n) r ≡ recordOf c (entryOf t n) r
+    record-left : (d : Deed) (c : List ℕ) → Valid t d → Off n r d → recordOf (deedDone t c d) (entryOf t n) r ≡ recordOf c (entryOf t n) r
     record-left (point p v) c h m = recordOf-putRun-other c p n r ok l in-set m (wordBytes v) (h .0 .0) (sym (h .0 .1))
     record-left (whole k q ys) c h m = recordOf-putRecord-other c k q ys ok h n r l in-set m
     record-left (fill k q ys) c h m = recordOf-putRun-other c (address k q body) n r ok l in-set m ys (h .0) (h .1)
@@ -120,23 +121,12 @@ module _ {t : Schema} (ok : SchemaOk t) (b : List ℕ) (sized : length b ≡ 512
       kept t (Miss a) (Misses a) (λ d ds h. h) (λ c. getWord t c a) (λ c k. getWord-seal c k a ok ia) (word-left ok a ia) b ds sized v m
 
   -- the one that a deed stores
-  word-put : (us : List Deed) (d : Deed) (vs : List Deed) (a : Address) (x : ℕ) → AllValid t (us ++ d ∷ vs) → IsWord t a → Misses a vs
-      → ((c : List ℕ) → length c ≡ 512 * t .blocks → getWord t (done t c d) a ≡ x) → getWord t (after t b (us ++ d ∷ vs)) a ≡ x
-  word-put us d vs a x v ia m h =
-      put t (Miss a) (Misses a) (λ d ds h. h) (λ c. getWord t c a) (λ c k. getWord-seal c k a ok ia) (word-left ok a ia) b us d vs x sized v m h
-
   pub word-pointed : (us : List Deed) (a : Address) (v : ℕ) (vs : List Deed) → AllValid t (us ++ point a v ∷ vs) → Misses a vs
       → getWord t (after t b (us ++ point a v ∷ vs)) a ≡ v
   word-pointed us a v vs h m =
       let w = valid-at t us (point a v) vs h .0 in
-      word-put us (point a v) vs a v h (w .0) m (λ c e. rw (putRun-word t c a v) (getWord-putWord c a v ok e (w .0) (w .1)))
-
-  pub word-whole : (us : List Deed) (n r : ℕ) (ys : List ℕ) (vs : List Deed) (f : Field) → AllValid t (us ++ whole n r ys ∷ vs) → HasField t n f
-      → sizeOf t (entryOf t n) f ≡ 4 → Misses (address n r f) vs
-      → getWord t (after t b (us ++ whole n r ys ∷ vs)) (address n r f) ≡ wordAt ys (offsetOf t (entryOf t n) f)
-  word-whole us n r ys vs f h has four m =
-      let w = valid-at t us (whole n r ys) vs h .0 in
-      word-put us (whole n r ys) vs (address n r f) _ h ((w .0, w .1, has), four) m (λ c e. getWord-putRecord c n r ys ok w f e has four)
+      put t (Miss a) (Misses a) (λ d ds h. h) (λ c. getWord t c a) (λ c k. getWord-seal c k a ok (w .0)) (word-left ok a (w .0)) b us (point a v) vs v sized h m
+      (λ c e. rw (putRun-word t c a v) (getWord-putWord c a v ok e (w .0) (w .1)))
 
   -- ---- a run
 
@@ -144,37 +134,21 @@ module _ {t : Schema} (ok : SchemaOk t) (b : List ℕ) (sized : length b ≡ 512
   run-missed ds a v ia m =
       kept t (Miss a) (Misses a) (λ d ds h. h) (λ c. getRun t c a) (λ c k. getRun-seal c k a ok ia) (run-left ok a ia) b ds sized v m
 
-  run-put : (us : List Deed) (d : Deed) (vs : List Deed) (a : Address) (xs : List ℕ) → AllValid t (us ++ d ∷ vs) → IsAddress t a → Misses a vs
-      → ((c : List ℕ) → length c ≡ 512 * t .blocks → getRun t (done t c d) a ≡ xs) → getRun t (after t b (us ++ d ∷ vs)) a ≡ xs
-  run-put us d vs a xs v ia m h =
-      put t (Miss a) (Misses a) (λ d ds h. h) (λ c. getRun t c a) (λ c k. getRun-seal c k a ok ia) (run-left ok a ia) b us d vs xs sized v m h
-
-  pub run-whole : (us : List Deed) (n r : ℕ) (ys : List ℕ) (vs : List Deed) (f : Field) → AllValid t (us ++ whole n r ys ∷ vs) → HasField t n f
-      → Misses (address n r f) vs
-      → getRun t (after t b (us ++ whole n r ys ∷ vs)) (address n r f) ≡ run ys (offsetOf t (entryOf t n) f) (sizeOf t (entryOf t n) f)
-  run-whole us n r ys vs f h has m =
-      let w = valid-at t us (whole n r ys) vs h .0 in
-      run-put us (whole n r ys) vs (address n r f) _ h (w .0, w .1, has) m (λ c e. getRun-putRecord c n r ys ok w f e has)
-
   pub run-filled : (us : List Deed) (n r : ℕ) (ys : List ℕ) (vs : List Deed) → AllValid t (us ++ fill n r ys ∷ vs) → Misses (address n r body) vs
       → getRun t (after t b (us ++ fill n r ys ∷ vs)) (address n r body) ≡ ys
   run-filled us n r ys vs h m =
       let w = valid-at t us (fill n r ys) vs h .0 in
-      run-put us (fill n r ys) vs (address n r body) ys h (w .0) m (λ c e. getRun-putRun c (address n r body) ys ok e (w .0) (w .1))
+      let a = address n r body in
+      put t (Miss a) (Misses a) (λ d ds h. h) (λ c. getRun t c a) (λ c k. getRun-seal c k a ok (w .0)) (run-left ok a (w .0)) b us (fill n r ys) vs ys sized h m
+      (λ c e. getRun-putRun c a ys ok e (w .0) (w .1))
 
   -- ---- a state
 
-  pub state-missed : (ds : List Deed) (n r : ℕ) → AllValid t ds → n < setCount t → InSet (entryOf t n) r → AllSpared n r ds
-      → stateOf (after t b ds) (entryOf t n) r ≡ stateOf b (entryOf t n) r
-  state-missed ds n r v l i m =
-      kept t (Spared n r) (AllSpared n r) (λ d ds h. h) (λ c. stateOf c (entryOf t n) r) (λ c k. stateOf-seal c n r ok l i k) (state-left ok n r l i) b ds sized v m
-
-  pub state-whole : (us : List Deed) (n r : ℕ) (ys : List ℕ) (vs : List Deed) → AllValid t (us ++ whole n r ys ∷ vs) → AllSpared n r vs
-      → stateOf (after t b (us ++ whole n r ys ∷ vs)) (entryOf t n) r ≡ byteAt ys 0
-  state-whole us n r ys vs h m =
-      let w = valid-at t us (whole n r ys) vs h .0 in
-      put t (Spared n r) (AllSpared n r) (λ d ds h. h) (λ c. stateOf c (entryOf t n) r) (λ c k. stateOf-seal c n r ok (w .0) (w .1) k) (state-left ok n r (w .0) (w .1))
-      b us (whole n r ys) vs _ sized h m (λ c e. stateOf-putRecord c n r ys ok w e)
+  pub live-missed : (ds : List Deed) (n r : ℕ) → AllValid t ds → n < setCount t → InSet (entryOf t n) r → AllSpared n r ds
+      → isLive (after t b ds) (entryOf t n) r ≡ isLive b (entryOf t n) r
+  live-missed ds n r v l i m =
+      ap (λ (x : ℕ). eqb x 1)
+      (kept t (Spared n r) (AllSpared n r) (λ d ds h. h) (λ c. stateOf c (entryOf t n) r) (λ c k. stateOf-seal c n r ok l i k) (state-left ok n r l i) b ds sized v m)
 
   -- ---- a whole record
 

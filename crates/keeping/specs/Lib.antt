@@ -1,7 +1,9 @@
 pub mod Deeds
 pub mod Holds
 pub mod DeedLaws
+pub mod HeldLaws
 pub mod SettleLaws
+pub mod AreaMade
 pub mod Frames
 pub mod Rows
 pub mod FreshLaws

@@ -32,8 +32,9 @@ use Rattle.plans.specs.FitLaws.{run-fits, record-fits}
 use Rattle.sound.specs.Sound.{eachRecord, recordClean, blocksHeld, leftoverClean, setClean}
 use Rattle.sound.specs.SoundLaws.{eachRecord-at}
 use Rattle.sound.specs.ListLaws.{eachRecord-all}
-use Rattle.keeping.specs.Deeds.{Deed, point, whole, fill, storeOf, storesFor, after, Valid, AllValid, Zeroed, AllZeroed}
-use Rattle.keeping.specs.Holds.{done, holds, kept}
+use Rattle.keeping.specs.Deeds.{Deed, point, whole, fill, storeOf, storesFor, after, Valid, AllValid, Zeroed, AllZeroed, AllOff}
+use Rattle.keeping.specs.DeedLaws.{record-missed}
+use Rattle.keeping.specs.Holds.{deedDone, holds, kept}
 
 -- bytes that are 0, and a run of them
 zero-byte : (xs : List ℕ) (i : ℕ) → allZero xs ≡ true → byteAt xs i ≡ 0
@@ -99,6 +100,11 @@ module _ {t : Schema} (ok : SchemaOk t) (b : List ℕ) (sized : length b ≡ 512
   unfolding recordClean
   free-zero n r l i c f = rw f at (clean-says b (entryOf t n) c .0 r i)
 
+  -- one that no deed goes into stays so
+  pub free-missed : (ds : List Deed) (n r : ℕ) → AllValid t ds → n < setCount t → InSet (entryOf t n) r → setClean b (entryOf t n) ≡ true
+      → isLive b (entryOf t n) r ≡ false → AllOff n r ds → allZero (recordOf (after t b ds) (entryOf t n) r) ≡ true
+  free-missed ds n r v l i c f off = rw (record-missed ok b sized ds n r v l i off) (free-zero n r l i c f)
+
   -- ---- fillers
 
   module _ (n r : ℕ) (l : n < setCount t) (in-set : InSet (entryOf t n) r) where
@@ -115,24 +121,24 @@ module _ {t : Schema} (ok : SchemaOk t) (b : List ℕ) (sized : length b ≡ 512
 
     -- a whole record that is put: its own filler is the one that is put, another is as it was
     filler-whole : (k q : ℕ) (ys c : List ℕ) → IsWhole t k q ys → run ys 1 3 ≡ zeros 3 → length c ≡ 512 * t .blocks → allZero (fillerOf c (entryOf t n) r) ≡ true
-        → allZero (fillerOf (done t c (whole k q ys)) (entryOf t n) r) ≡ true
+        → allZero (fillerOf (deedDone t c (whole k q ys)) (entryOf t n) r) ≡ true
     filler-whole k q ys c w z e h = go (ℕ-discrete n k) (ℕ-discrete r q)
       where
-        own : allZero (fillerOf (done t c (whole k q ys)) (entryOf t k) q) ≡ true
-        own = rw (← (fillerOf-recordOf (done t c (whole k q ys)) k q ok (w .0)), recordOf-putRecord c k q ys ok w e, z) (allZero-zeros 3)
+        own : allZero (fillerOf (deedDone t c (whole k q ys)) (entryOf t k) q) ≡ true
+        own = rw (← (fillerOf-recordOf (deedDone t c (whole k q ys)) k q ok (w .0)), recordOf-putRecord c k q ys ok w e, z) (allZero-zeros 3)
 
-        other : ((n ≡ k) × (r ≡ q) → ⊥) → allZero (fillerOf (done t c (whole k q ys)) (entryOf t n) r) ≡ true
+        other : ((n ≡ k) × (r ≡ q) → ⊥) → allZero (fillerOf (deedDone t c (whole k q ys)) (entryOf t n) r) ≡ true
         other d =
-            rw (← (fillerOf-recordOf (done t c (whole k q ys)) n r ok l), recordOf-putRecord-other c k q ys ok w n r l in-set d, fillerOf-recordOf c n r ok l) h
+            rw (← (fillerOf-recordOf (deedDone t c (whole k q ys)) n r ok l), recordOf-putRecord-other c k q ys ok w n r l in-set d, fillerOf-recordOf c n r ok l) h
 
-        go : Dec (n ≡ k) → Dec (r ≡ q) → allZero (fillerOf (done t c (whole k q ys)) (entryOf t n) r) ≡ true
+        go : Dec (n ≡ k) → Dec (r ≡ q) → allZero (fillerOf (deedDone t c (whole k q ys)) (entryOf t n) r) ≡ true
         go (yes x) (yes y) = rw (x, y) own
         go (yes x) (no y) = other (λ d. y (d .1))
         go (no x) (yes y) = other (λ d. x (d .0))
         go (no x) (no y) = other (λ d. x (d .0))
 
     filler-kept : (d : Deed) (c : List ℕ) → Valid t d → Zeroed d → length c ≡ 512 * t .blocks → allZero (fillerOf c (entryOf t n) r) ≡ true
-        → allZero (fillerOf (done t c d) (entryOf t n) r) ≡ true
+        → allZero (fillerOf (deedDone t c d) (entryOf t n) r) ≡ true
     filler-kept (point a v) c w z e h = rw (fillerOf-putRun n r ok l in-set c a (wordBytes v) (w .0 .0) (sym (w .0 .1))) h
     filler-kept (whole k q ys) c w z e h = filler-whole k q ys c w z e h
     filler-kept (fill k q ys) c w z e h = rw (fillerOf-putRun n r ok l in-set c (address k q body) ys (w .0) (w .1)) h
@@ -145,7 +151,7 @@ module _ {t : Schema} (ok : SchemaOk t) (b : List ℕ) (sized : length b ≡ 512
   -- ---- leftovers
 
   leftover-kept : (n k : ℕ) → n < setCount t → IsBlockOf (entryOf t n) k → (d : Deed) (c : List ℕ) → Valid t d
-      → leftoverOf (done t c d) (entryOf t n) k ≡ leftoverOf c (entryOf t n) k
+      → leftoverOf (deedDone t c d) (entryOf t n) k ≡ leftoverOf c (entryOf t n) k
   leftover-kept n k l m (point a v) c h = leftoverOf-inside n k ok l m c (a .set) (a .at) _ (wordBytes v) (rw (h .0 .1) at (address-inside a ok (h .0 .0)))
   leftover-kept n k l m (whole i r ys) c h = leftoverOf-putRecord n k ok l m c i r ys h
   leftover-kept n k l m (fill i r ys) c h = leftoverOf-inside n k ok l m c i r _ ys (rw (← (h .1)) at (address-inside (address i r body) ok (h .0)))

@@ -35,10 +35,10 @@ use Rattle.keeping.specs.Tests.{AddTests}
 use Rattle.housing.specs.QuietLaws.{free-place}
 use Rattle.linking.specs.RowFacts.{pathAt}
 use Rattle.linking.specs.Nodes.{node}
-use Rattle.linking.specs.AreaMade.{area-made}
+use Rattle.keeping.specs.AreaMade.{area-made}
 use Rattle.linking.specs.PointSteps.{PointStep}
 use Rattle.linking.specs.RowChange.{Linkage, sideOf, key?}
-use Rattle.linking.specs.Neighbours.{added, add-place}
+use Rattle.linking.specs.Neighbours.{addLinkage, add-place}
 use Rattle.linking.specs.Sides.{linkDeeds, sides-stores, Linking, linked-storable, linked-run, linked-word, linked-step, side-small, side-set, linked-keeps}
 
 -- the rows after an add: r into the list of its key on every path of its set, at the spot on the named path, last on the others
@@ -58,7 +58,7 @@ module _ (t : Schema) (w : World t) (b : List ℕ) (rows : ℕ → ℕ → List 
 
   -- the call, its stores and the data base after it
   abbrev call : Linkage
-  call = added t b rows i named area spot
+  call = addLinkage t b rows i named area spot
 
   add-stores : addStores b t (entryOf t i) area spot named (lowestFree b (entryOf t i)) ≡ storesFor t (linkDeeds t call)
   unfolding addStores

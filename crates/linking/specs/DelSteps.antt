@@ -27,13 +27,13 @@ use Rattle.keeping.specs.Rows.{World, Represents, Mine, without}
 use Rattle.keeping.specs.Tests.{DelTests}
 use Rattle.linking.specs.PointSteps.{PointStep}
 use Rattle.linking.specs.RowChange.{Linkage, rowAt, key?}
-use Rattle.linking.specs.Neighbours.{without-fresh, deleted, del-place}
+use Rattle.linking.specs.Neighbours.{without-fresh, delLinkage, del-place}
 use Rattle.linking.specs.Sides.{sides, linkDeeds, sides-stores, Linking, linked-storable, linked-step, side-set, linked-keeps}
 
 module _ (t : Schema) (w : World t) (b : List ℕ) (rows : ℕ → ℕ → List ℕ → List ℕ) (g : Represents t b rows) (i r : ℕ) (ok : DelTests t b i r) where
   -- the call and its stores
   abbrev call : Linkage
-  call = deleted t b rows i r
+  call = delLinkage t b rows i r
 
   del-stores : delStores b t (entryOf t i) r ≡ storesFor t (linkDeeds t call)
   unfolding delStores

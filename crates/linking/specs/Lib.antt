@@ -2,7 +2,6 @@ pub mod RowFacts
 pub mod Standing
 pub mod FollowLaws
 pub mod Nodes
-pub mod AreaMade
 pub mod PointSteps
 pub mod WriteSteps
 pub mod RowChange

@@ -32,7 +32,7 @@ use Rattle.keeping.specs.Tests.{SpotOk, AddTests, DelTests}
 use Rattle.housing.specs.FindLaws.{find-live, find-at}
 use Rattle.housing.specs.QuietLaws.{free-place}
 use Rattle.linking.specs.RowFacts.{pathAt, mastersAt, row-nozero, row-chain, row-nodup}
-use Rattle.linking.specs.RowChange.{Linkage, sideOf, Place, side-beside}
+use Rattle.linking.specs.RowChange.{Linkage, sideOf, RowPlace, side-beside}
 
 -- ---- a list of numbers, cut at a number that stands in it once
 
@@ -125,7 +125,7 @@ read-quiet t b i j rows m key linked n p l k h =
 
 -- of a call: on each path the ends that the master keeps, and the neighbours
 linkage-quiet : (t : Schema) (b : List ℕ) (rows : ℕ → ℕ → List ℕ → List ℕ) (x : Linkage) → ((k : ℕ) → k < entryOf t (x .set) .count → PathRows t b (x .set) k (rows (x .set) k))
-    → ((k : ℕ) → k < entryOf t (x .set) .count → Place t b rows x k)
+    → ((k : ℕ) → k < entryOf t (x .set) .count → RowPlace t b rows x k)
     → not (allBelow (λ k. not (unevenEnds b (mastersAt t (x .set) k) (x .master k) (pathAt t (x .set) k)
     || badNeighbour b (entryOf t (x .set)) (pathAt t (x .set) k) (x .key k) (x .link k .prior)
     || badNeighbour b (entryOf t (x .set)) (pathAt t (x .set) k) (x .key k) (x .link k .next))) (entryOf t (x .set) .count)) ≡ false
@@ -137,8 +137,8 @@ linkage-quiet t b rows x p h =
 
 -- ---- the adds and DELVD
 
-abbrev pub added : Schema → List ℕ → (ℕ → ℕ → List ℕ → List ℕ) → ℕ → ℕ → List ℕ → Spot → Linkage
-added t b rows i named area spot =
+abbrev pub addLinkage : Schema → List ℕ → (ℕ → ℕ → List ℕ → List ℕ) → ℕ → ℕ → List ℕ → Spot → Linkage
+addLinkage t b rows i named area spot =
     record {
       set = i;
       at = lowestFree b (entryOf t i);
@@ -150,8 +150,8 @@ added t b rows i named area spot =
       row = λ k. inserted (spotOn spot named k) (lowestFree b (entryOf t i)) (rows i k (areaKeyOn (entryOf t i) area k));
     }
 
-abbrev pub deleted : Schema → List ℕ → (ℕ → ℕ → List ℕ → List ℕ) → ℕ → ℕ → Linkage
-deleted t b rows i r =
+abbrev pub delLinkage : Schema → List ℕ → (ℕ → ℕ → List ℕ → List ℕ) → ℕ → ℕ → Linkage
+delLinkage t b rows i r =
     record {
       set = i;
       at = r;
@@ -173,7 +173,7 @@ module _ (t : Schema) (w : World t) (b : List ℕ) (rows : ℕ → ℕ → List 
   found-on k key h f = let s = path-masters k h in find-at b (mastersAt t i k) (s .0) (s .1) key f
 
   pub add-place : (named : ℕ) (area : List ℕ) (spot : Spot) → AddTests t b i named area spot → (k : ℕ) → k < entryOf t i .count
-      → Place t b rows (added t b rows i named area spot) k
+      → RowPlace t b rows (addLinkage t b rows i named area spot) k
   add-place named area spot a k l =
       let h : IsPathOf t i k = (a .path .0, a .path .1, l) in
       let r = lowestFree b (entryOf t i) in
@@ -195,7 +195,7 @@ module _ (t : Schema) (w : World t) (b : List ℕ) (rows : ℕ → ℕ → List 
 
   pub add-quiet : (named : ℕ) (area : List ℕ) (spot : Spot) → AddTests t b i named area spot → addDamaged b t (entryOf t i) area spot named ≡ false
   unfolding addDamaged
-  add-quiet named area spot a = linkage-quiet t b rows (added t b rows i named area spot) (λ k l. g .paths i k (a .path .0, a .path .1, l)) (add-place named area spot a)
+  add-quiet named area spot a = linkage-quiet t b rows (addLinkage t b rows i named area spot) (λ k l. g .paths i k (a .path .0, a .path .1, l)) (add-place named area spot a)
 
   pub own-found : (r : ℕ) → DelTests t b i r → (k : ℕ) → k < entryOf t i .count → isAt (findOn b t (entryOf t i) k (keyOn b (entryOf t i) r (pathOf (entryOf t i) k))) ≡ true
   own-found r d k l =
@@ -204,7 +204,7 @@ module _ (t : Schema) (w : World t) (b : List ℕ) (rows : ℕ → ℕ → List 
       let o = g .paths i k h .owned r (d .live) in
       rw (find-live b (mastersAt t i k) (s .0) (s .1) (o .0) (keyOn b (entryOf t i) r (pathAt t i k)) (o .1) (o .2)) refl
 
-  pub del-place : (r : ℕ) → DelTests t b i r → (k : ℕ) → k < entryOf t i .count → Place t b rows (deleted t b rows i r) k
+  pub del-place : (r : ℕ) → DelTests t b i r → (k : ℕ) → k < entryOf t i .count → RowPlace t b rows (delLinkage t b rows i r) k
   del-place r d k l =
       let h : IsPathOf t i k = (d .set .0, d .set .1, l) in
       let m = found-on k (ownKey b t (entryOf t i) r k) h (own-found r d k l) in
@@ -219,4 +219,4 @@ module _ (t : Schema) (w : World t) (b : List ℕ) (rows : ℕ → ℕ → List 
 
   pub del-quiet : (r : ℕ) → DelTests t b i r → delDamaged b t (entryOf t i) r ≡ false
   unfolding delDamaged
-  del-quiet r d = linkage-quiet t b rows (deleted t b rows i r) (λ k l. g .paths i k (d .set .0, d .set .1, l)) (del-place r d)
+  del-quiet r d = linkage-quiet t b rows (delLinkage t b rows i r) (λ k l. g .paths i k (d .set .0, d .set .1, l)) (del-place r d)

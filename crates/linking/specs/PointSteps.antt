@@ -7,7 +7,6 @@ use mathlib.Core.Logic.{_≢_, _⊎_, inl, inr}
 use mathlib.Core.Bool.{Bool, true, false}
 use mathlib.Core.List.{List, [], _∷_}
 use native.Mathlib.Omega.{arith}
-use lib.Dec.{eqb}
 use lib.ListN.{length}
 use Rattle.octets.specs.Octets.{allZero}
 use Rattle.octets.specs.BelowLaws.{never-both, same?}
@@ -27,15 +26,15 @@ use Rattle.chains.specs.Segments.{headed-at}
 use Rattle.sound.specs.Sound.{setClean}
 use Rattle.sound.specs.KeyLaws.{Live}
 use Rattle.keeping.specs.Deeds.{Deed, point, whole, fill, after, Valid, AllValid, Misses, AllSpared, AllOff, Zeroed, AllZeroed}
-use Rattle.keeping.specs.DeedLaws.{length-after, word-missed, run-missed, state-missed, record-missed}
-use Rattle.keeping.specs.SettleLaws.{sealed-after, clean-after, free-zero}
+use Rattle.keeping.specs.DeedLaws.{length-after, word-missed, run-missed, live-missed}
+use Rattle.keeping.specs.SettleLaws.{sealed-after, clean-after, free-missed}
 use Rattle.keeping.specs.Frames.{SameMasters, SameHeads, SamePoints}
 use Rattle.keeping.specs.Rows.{World, PathRows, Represents}
 use Rattle.housing.specs.RowLaws.{same-masters}
 use Rattle.linking.specs.RowFacts.{pathAt, mastersAt, rows-same}
 use Rattle.linking.specs.FollowLaws.{path-frame}
 use Rattle.linking.specs.Nodes.{pointer, node, node-is, pointer-word, pointer-elsewhere, pointers-apart, Plain, plain-apart}
-use Rattle.linking.specs.AreaMade.{area-same}
+use Rattle.keeping.specs.AreaMade.{area-same}
 
 -- ---- the step
 
@@ -70,9 +69,6 @@ point-step-keeps t w b c rows now i r g s others own =
 -- ---- what deeds leave
 
 module _ (t : Schema) (w : World t) (b : List ℕ) (rows : ℕ → ℕ → List ℕ → List ℕ) (g : Represents t b rows) (ds : List Deed) (valid : AllValid t ds) where
-  pub live-spared : (n q : ℕ) → n < setCount t → InSet (entryOf t n) q → AllSpared n q ds → isLive (after t b ds) (entryOf t n) q ≡ isLive b (entryOf t n) q
-  live-spared n q l s h = ap (λ (x : ℕ). eqb x 1) (state-missed (w .ok) b (g .sized) ds n q valid l s h)
-
   pub node-missed : (way : Bool) (k j m a : ℕ) → IsPathOf t k j → InSet (mastersAt t k j) m → a ≤ entryOf t k .records → Misses (pointer t way k j m a) ds
       → node t (after t b ds) way k j m a ≡ node t b way k j m a
   node-missed way k j m a p in-m in-a h =
@@ -91,7 +87,7 @@ module _ (t : Schema) (w : World t) (b : List ℕ) (rows : ℕ → ℕ → List 
         let l = w .ok .path k j p .master in
         let one : InSet (mastersAt t k j) 1 = (omega arith, w .ok .set (pathAt t k j .master .0) (omega arith) .some) in (
           record {
-            live = λ q s. live-spared k q (p .1) s (spared q);
+            live = λ q s. live-missed (w .ok) b (g .sized) ds k q valid (p .1) s (spared q);
             key = λ q s. run-missed (w .ok) b (g .sized) ds (address k q (key j)) valid (p .1, s, p) (keys q);
             prior = λ q s. sym (headed-at _ _ q (s .0)) ∙ node-same false 1 q one (s .1) ∙ headed-at _ _ q (s .0);
             next = λ q s. sym (headed-at _ _ q (s .0)) ∙ node-same true 1 q one (s .1) ∙ headed-at _ _ q (s .0);
@@ -163,7 +159,7 @@ module _ (t : Schema) (w : World t) (b : List ℕ) (rows : ℕ → ℕ → List 
     word-kept f p ia = word-missed (w .ok) b (g .sized) ds (address n q f) valid ia (plain-missed f p)
 
     pub live-kept : n < setCount t → InSet (entryOf t n) q → isLive left (entryOf t n) q ≡ isLive b (entryOf t n) q
-    live-kept l s = live-spared t w b rows g ds valid n q l s (on-spared t b i r n q d ds on)
+    live-kept l s = live-missed (w .ok) b (g .sized) ds n q valid l s (on-spared t b i r n q d ds on)
 
   masters-kept : (n : ℕ) → n < t .masters → SameMasters t b left n
   masters-kept n l =
@@ -190,7 +186,7 @@ module _ (t : Schema) (w : World t) (b : List ℕ) (rows : ℕ → ℕ → List 
         else : Elsewhere n q i r → allZero (recordOf left (entryOf t n) q) ≡ true
         else d =
             let was : isLive b (entryOf t n) q ≡ false = sym (live-kept n q d l s) ∙ f in
-            rw (record-missed (w .ok) b (g .sized) ds n q valid l s (on-off t b i r n q was d ds on)) (free-zero (w .ok) b (g .sized) n q l s (g .clean n l) was)
+            free-missed (w .ok) b (g .sized) ds n q valid l s (g .clean n l) was (on-off t b i r n q was d ds on)
 
         by : (n ≡ i) ⊎ (n ≢ i) → (q ≡ r) ⊎ (q ≢ r) → allZero (recordOf left (entryOf t n) q) ≡ true
         by (inl e) (inl k) = rw (e, k) (wiped (rw (e, k) at f))

@@ -1,5 +1,5 @@
 -- A call that links a record into the paths of its set, or takes it out of them, and what it makes of one path: if the record's place in the row of
--- its key is as Place says and the fields have changed as Changed says, the path stands for the rows with another list at that key. The chain of
+-- its key is as RowPlace says and the fields have changed as RowChanged says, the path stands for the rows with another list at that key. The chain of
 -- the key's master is changed in the middle; the records of every other chain have another key, so their pointers stay.
 use Prim.Native.Nat.{ℕ, _≤_}
 use mathlib.Core.Path.{_≡_, refl, sym, _∙_}
@@ -48,7 +48,7 @@ sideOf true l = l .prior
 sideOf false l = l .next
 
 -- the place on path j: the master of the key, and the row cut in two, with the nodes at the ends of the pieces
-pub record Place (t : Schema) (b : List ℕ) (rows : ℕ → ℕ → List ℕ → List ℕ) (x : Linkage) (j : ℕ) : Type 0 where
+pub record RowPlace (t : Schema) (b : List ℕ) (rows : ℕ → ℕ → List ℕ → List ℕ) (x : Linkage) (j : ℕ) : Type 0 where
   pub master : Live b (mastersAt t (x .set) j) (x .master j) × (masterKey b (mastersAt t (x .set) j) (x .master j) ≡ x .key j)
   pub no-blank : allBlank (x .key j) ≡ false
   pub split : (left : List ℕ) × (right : List ℕ) × (rows (x .set) j (x .key j) ≡ left ++ (only (not (x .adds)) (x .at) ++ right))
@@ -57,7 +57,7 @@ pub record Place (t : Schema) (b : List ℕ) (rows : ℕ → ℕ → List ℕ �
   pub own-key : isLive b (entryOf t (x .set)) (x .at) ≡ true → keyOn b (entryOf t (x .set)) (x .at) (pathAt t (x .set) j) ≡ x .key j
 
 -- what it does to path j, field by field: `b` before, `c` after
-pub record Changed (t : Schema) (b c : List ℕ) (x : Linkage) (j : ℕ) : Type 0 where
+pub record RowChanged (t : Schema) (b c : List ℕ) (x : Linkage) (j : ℕ) : Type 0 where
   pub seg : Seg (nextNode t c (x .set) j (x .master j)) (priorNode t c (x .set) j (x .master j)) (x .link j .prior) (only (x .adds) (x .at)) (x .link j .next)
   pub live : isLive c (entryOf t (x .set)) (x .at) ≡ x .adds
   pub keyed : x .adds ≡ true → keyOn c (entryOf t (x .set)) (x .at) (pathAt t (x .set) j) ≡ x .key j
@@ -82,7 +82,7 @@ key? k key = by (sameBytes k key) refl
 
 -- ---- the place
 
-module _ (t : Schema) (b : List ℕ) (rows : ℕ → ℕ → List ℕ → List ℕ) (x : Linkage) (j : ℕ) (p : PathRows t b (x .set) j (rows (x .set) j)) (h : Place t b rows x j) where
+module _ (t : Schema) (b : List ℕ) (rows : ℕ → ℕ → List ℕ → List ℕ) (x : Linkage) (j : ℕ) (p : PathRows t b (x .set) j (rows (x .set) j)) (h : RowPlace t b rows x j) where
   -- the pieces of the row: their records are others than the call's own
   abbrev left : List ℕ
   left = h .split .0
@@ -121,7 +121,7 @@ module _ (t : Schema) (b : List ℕ) (rows : ℕ → ℕ → List ℕ → List �
 
   -- ---- the change
 
-  module _ (c : List ℕ) (ms : MasterSet b (mastersAt t (x .set) j)) (number : InSet (entryOf t (x .set)) (x .at)) (ch : Changed t b c x j) where
+  module _ (c : List ℕ) (ms : MasterSet b (mastersAt t (x .set) j)) (number : InSet (entryOf t (x .set)) (x .at)) (ch : RowChanged t b c x j) where
     -- a record of c is the call's own, or what it was in b
     which : (a : ℕ) → Live c (entryOf t (x .set)) a
         → ((a ≡ x .at) × (x .adds ≡ true) × (keyIn c a ≡ x .key j)) ⊎ ((a ≢ x .at) × Live b (entryOf t (x .set)) a × (keyIn c a ≡ keyIn b a))

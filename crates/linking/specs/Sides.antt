@@ -19,7 +19,7 @@ use Rattle.schema.specs.Guarantee.{SchemaOk, IsPathOf}
 use Rattle.records.specs.Records.{isLive, keyOn}
 use Rattle.records.specs.Address.{Field, key, Address, offsetOf, sizeOf, HasField, getRun, getWord}
 use Rattle.records.specs.AddressLaws.{address}
-use Rattle.records.specs.WholeRecords.{Elsewhere, getRun-recordOf, getWord-recordOf, stateOf-recordOf}
+use Rattle.records.specs.WholeRecords.{Elsewhere}
 use Rattle.plans.specs.Plan.{blocksSealed}
 use Rattle.chains.specs.Chains.{priorSide, nextSide}
 use Rattle.chains.specs.SideLaws.{priorSide-is, nextSide-is}
@@ -27,12 +27,13 @@ use Rattle.chains.specs.Segments.{Seg}
 use Rattle.sound.specs.KeyLaws.{Live}
 use Rattle.keeping.specs.Deeds.{Deed, point, whole, storesFor, after, Valid, AllValid, Miss, Misses, AllOff, Zeroed}
 use Rattle.keeping.specs.DeedLaws.{each-append, each-below, misses-append, misses-below, misses-but, off-below, storesFor-below, word-pointed, record-whole}
+use Rattle.keeping.specs.HeldLaws.{live-is, run-is, word-is}
 use Rattle.keeping.specs.SettleLaws.{storable}
 use Rattle.keeping.specs.Rows.{World, Represents, Mine, nextNode, priorNode}
 use Rattle.linking.specs.RowFacts.{pathAt, mastersAt, rows-same}
 use Rattle.linking.specs.Nodes.{pointer, node, node-is, pointer-word, pointer-at, pointer-elsewhere, pointers-apart}
 use Rattle.linking.specs.PointSteps.{PointStep, point-step-keeps, OnPoint, node-missed, AllOnPoint, on-valid, run-kept, live-kept, deeds-step}
-use Rattle.linking.specs.RowChange.{Linkage, only, sideOf, Place, side-beside, rowAt, row-changed}
+use Rattle.linking.specs.RowChange.{Linkage, only, sideOf, RowPlace, side-beside, rowAt, row-changed}
 
 -- ---- the deeds
 
@@ -73,7 +74,7 @@ pub record Linking (t : Schema) (b : List ℕ) (rows : ℕ → ℕ → List ℕ 
   pub state : Represents t b rows
   pub set : (t .masters ≤ x .set) × (x .set < setCount t)
   pub number : InSet (entryOf t (x .set)) (x .at)
-  pub place : (k : ℕ) → k < entryOf t (x .set) .count → Place t b rows x k
+  pub place : (k : ℕ) → k < entryOf t (x .set) .count → RowPlace t b rows x k
   pub long : length (x .bytes) ≡ entryOf t (x .set) .size
   pub zeroed : run (x .bytes) 1 3 ≡ zeros 3
   pub live : eqb (byteAt (x .bytes) 0) 1 ≡ x .adds
@@ -176,15 +177,15 @@ module _ {t : Schema} {b : List ℕ} {rows : ℕ → ℕ → List ℕ → List �
       (λ k l. (λ e. side-off k l true (sym (e .0), sym (e .1)), (λ e. side-off k l false (sym (e .0), sym (e .1)), tt)))))
 
   linked-live : isLive left (entryOf t (x .set)) (x .at) ≡ x .adds
-  linked-live = rw (← stateOf-recordOf left (x .set) (x .at) (h .world .ok) (h .set .1), linked-record) (h .live)
+  linked-live = live-is (h .world .ok) left (x .set) (x .at) (x .bytes) (h .set .1) linked-record ∙ h .live
 
   pub linked-run : (f : Field) → HasField t (x .set) f
       → getRun t left (address (x .set) (x .at) f) ≡ run (x .bytes) (offsetOf t (entryOf t (x .set)) f) (sizeOf t (entryOf t (x .set)) f)
-  linked-run f has = rw linked-record at (sym (getRun-recordOf left (x .set) (x .at) f (h .world .ok) (h .set .1) has))
+  linked-run = run-is (h .world .ok) left (x .set) (x .at) (x .bytes) (h .set .1) linked-record
 
   pub linked-word : (f : Field) → HasField t (x .set) f → sizeOf t (entryOf t (x .set)) f ≡ 4
       → getWord t left (address (x .set) (x .at) f) ≡ wordAt (x .bytes) (offsetOf t (entryOf t (x .set)) f)
-  linked-word f has four = rw linked-record at (sym (getWord-recordOf left (x .set) (x .at) f (h .world .ok) (h .set .1) has four))
+  linked-word = word-is (h .world .ok) left (x .set) (x .at) (x .bytes) (h .set .1) linked-record
 
   pub linked-step : PointStep t b left (x .set) (x .at)
   linked-step =

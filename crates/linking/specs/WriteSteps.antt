@@ -17,15 +17,15 @@ use Rattle.records.specs.Address.{body, key}
 use Rattle.records.specs.AddressLaws.{address, other-kind}
 use Rattle.plans.specs.Plan.{storeRun, blocksSealed, committed}
 use Rattle.keeping.specs.Deeds.{Deed, fill, after, AllValid}
-use Rattle.keeping.specs.DeedLaws.{run-missed, run-filled}
+use Rattle.keeping.specs.DeedLaws.{run-missed, run-filled, live-missed}
 use Rattle.keeping.specs.SettleLaws.{storable}
 use Rattle.keeping.specs.Rows.{World, Represents}
 use Rattle.keeping.specs.Tests.{WriteTests}
 use Rattle.linking.specs.RowFacts.{pathAt}
 use Rattle.linking.specs.FollowLaws.{path-frame}
 use Rattle.linking.specs.Nodes.{plain-apart}
-use Rattle.linking.specs.AreaMade.{area-made}
-use Rattle.linking.specs.PointSteps.{PointStep, point-step-keeps, live-spared, path-same, deeds-step}
+use Rattle.keeping.specs.AreaMade.{area-made}
+use Rattle.linking.specs.PointSteps.{PointStep, point-step-keeps, path-same, deeds-step}
 
 module _ (t : Schema) (w : World t) (b : List ℕ) (rows : ℕ → ℕ → List ℕ → List ℕ) (g : Represents t b rows) (i r : ℕ) (area : List ℕ) (ok : WriteTests t b i r area) where
   -- the deed, and the data base after it
@@ -44,7 +44,7 @@ module _ (t : Schema) (w : World t) (b : List ℕ) (rows : ℕ → ℕ → List 
   pub write-point-step : PointStep t b (committed b (storeRun (entryOf t i) r (entryOf t i .body) (areaBody (entryOf t i) area) ∷ [])) i r
   write-point-step =
       deeds-step t w b rows g i r (ok .set .0) fills ((valid .0, tt, (refl, refl)), tt)
-      (λ f. absurd (never-both (isLive b (entryOf t i) r) (ok .live .1) (sym (live-spared t w b rows g fills valid i r (ok .set .1) (ok .live .0) (tt, tt)) ∙ f)))
+      (λ f. absurd (never-both (isLive b (entryOf t i) r) (ok .live .1) (sym (live-missed (w .ok) b (g .sized) fills i r valid (ok .set .1) (ok .live .0) (tt, tt)) ∙ f)))
 
   pub write-keeps : Represents t (committed b (storeRun (entryOf t i) r (entryOf t i .body) (areaBody (entryOf t i) area) ∷ [])) rows
   write-keeps =

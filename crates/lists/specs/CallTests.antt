@@ -27,13 +27,13 @@ use Rattle.masters.specs.Find.{find, homeIn, recordFound, isAt, isMissing, isDa
 use Rattle.masters.specs.Root.{addMasterFull}
 use Rattle.chains.specs.Chains.{isPointOf, hasPoints}
 use Rattle.chains.specs.Points.{findOn}
-use Rattle.keeping.specs.Tests.{AddMasterTests, DelMasterTests, WriteMasterTests, SpotOk, AddTests, DelTests, WriteTests}
 use Rattle.sound.specs.KeyLaws.{Live}
 use Rattle.calls.specs.Call.{Call, oneOf, variableCalls, adds}
 use Rattle.calls.specs.Scene.{Scene, setNamed, pathNamed, sceneUnder}
 use Rattle.calls.specs.Ladder.{on, otherStoredKey, parameterTests, foundTests, masterTests, otherMasterTests}
 use Rattle.calls.specs.LadderLaws.{Passes}
 use Rattle.calls.specs.Reply.{masterIn, homeOfKey, spotOf}
+use Rattle.keeping.specs.Tests.{AddMasterTests, DelMasterTests, WriteMasterTests, SpotOk, AddTests, DelTests, WriteTests}
 use Rattle.lists.specs.Calm.{asked, passes-left, passes-at}
 use Rattle.lists.specs.Operations.{some-add}
 use Rattle.lists.specs.Passed.{on-masters, on-points, area-right, key-told, area-keys-told, area-key-same, number-told, same-master-key, same-path-key, no-blank-keys}
@@ -84,7 +84,7 @@ module _ (t : Schema) (ok : SchemaOk t) (c : Call) where
   unfolding sceneUnder
   found-point q = rw q refl
 
-  pub home-master : oneOf o variableCalls ≡ false → homeOfKey x c ≡ homeIn e (c .key)
+  home-master : oneOf o variableCalls ≡ false → homeOfKey x c ≡ homeIn e (c .key)
   unfolding sceneUnder
   home-master q = rw q refl
 
@@ -140,7 +140,7 @@ module _ (t : Schema) (ok : SchemaOk t) (c : Call) where
     point-master v q r = rw (found-point v) at (found-at q r)
 
     -- the referenced record
-    pub referenced : oneOf o (Readd ∷ Writv ∷ Addvb ∷ Addva ∷ Delvd ∷ []) ≡ true
+    referenced : oneOf o (Readd ∷ Writv ∷ Addvb ∷ Addva ∷ Delvd ∷ []) ≡ true
         → Live (c .base) e (c .reference) × (keyOn (c .base) e (c .reference) (pathOf e j) ≡ c .key)
     unfolding sceneUnder
     referenced q =

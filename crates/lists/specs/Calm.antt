@@ -18,6 +18,10 @@ abbrev pub Calm : List Test → Type 0
 Calm [] = Unit {0}
 Calm (a ∷ more) = ((a .status ≢ Damg) ⊎ (a .refuses ≡ false)) × (a .refuses ≡ false → Calm more)
 
+-- one test, and those behind it
+pub calm-test : {s : Status} {f : Bool} {More : Type 0} → (s ≢ Damg) ⊎ (f ≡ false) → (f ≡ false → More) → ((s ≢ Damg) ⊎ (f ≡ false)) × (f ≡ false → More)
+calm-test h k = (h, k)
+
 calm-one : (f : Bool) (s u : Status) → (s ≢ Damg) ⊎ (f ≡ false) → (f ≡ false → u ≢ Damg) → cond f s u ≢ Damg
 calm-one true s u (inl n) k = n
 calm-one true s u (inr e) k = absurd (never-both true refl e)
@@ -38,13 +42,16 @@ calm-below f zero h = tt
 calm-below f (suc n) h = calm-append (concatBelow f n) (f n) (calm-below f n (λ k l. h k (omega arith))) (λ p. h n (omega arith))
 
 -- tests of other statuses
+pub mild : (s : Status) (f : Bool) → statusNumber s < 16 → (s ≢ Damg) ⊎ (f ≡ false)
+mild s f l = inl (λ e. let z : statusNumber s ≡ 16 = ap statusNumber e in omega arith)
+
 abbrev pub Others : List Test → Type 0
 Others [] = Unit {0}
 Others (a ∷ more) = (statusNumber (a .status) < 16) × Others more
 
 pub others-calm : (tests : List Test) → Others tests → Calm tests
 others-calm [] h = tt
-others-calm (a ∷ more) h = (inl (λ e. let z : statusNumber (a .status) ≡ 16 = ap statusNumber e in omega arith), λ e. others-calm more (h .1))
+others-calm (a ∷ more) h = (mild (a .status) (a .refuses) (h .0), λ e. others-calm more (h .1))
 
 -- ---- what is passed
 

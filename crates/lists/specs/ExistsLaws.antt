@@ -1,13 +1,11 @@
 -- "The master exists": READM answers **** exactly if a live master has the key. And a row that is not empty has its master.
-use Prim.Native.Nat.{ℕ, _+_, _≤_, _<_}
-use mathlib.Core.Path.{_≡_, refl, _∙_}
+use Prim.Native.Nat.{ℕ, _+_, _<_}
+use mathlib.Core.Path.{_≡_, refl}
 use mathlib.Core.Logic.{_⊎_, inl, inr}
-use mathlib.Core.Bool.{Bool, true, false}
-use mathlib.Core.List.{List, [], _∷_, _++_}
+use mathlib.Core.Bool.{true, false}
+use mathlib.Core.List.{List, [], _∷_}
 use native.Mathlib.Omega.{arith}
-use lib.Dec.{ltb}
 use lib.ListN.{length}
-use borrow.Author.Tests.{eq-eqb, ne-eqb, ltb-true, ltb-false}
 use Rattle.octets.specs.BelowLaws.{never-both}
 use Rattle.octets.specs.SpliceLaws.{length-run}
 use Rattle.octets.specs.Text.{text}
@@ -17,53 +15,46 @@ use Rattle.schema.specs.declared.Entry.{Entry}
 use Rattle.schema.specs.declared.Schema.{Schema}
 use Rattle.schema.specs.Decode.{entryOf, pathOf, setCount, schemaOf}
 use Rattle.schema.specs.Place.{placeOf}
-use Rattle.schema.specs.Guarantee.{SchemaOk, IsPathOf}
+use Rattle.schema.specs.Guarantee.{SchemaOk}
 use Rattle.records.specs.Records.{masterKey}
 use Rattle.records.specs.Areas.{isMaster, areaLength}
 use Rattle.records.specs.AddressLaws.{inside-base}
+use Rattle.records.specs.KindLaws.{is-master, is-variable}
 use Rattle.masters.specs.declared.Found.{Found}
 use Rattle.masters.specs.declared.Found.the-variants.{At, Missing, Damaged}
 use Rattle.masters.specs.Find.{find, isMissing, isDamaged}
 use Rattle.masters.specs.FindLaws.{find-at}
 use Rattle.chains.specs.Points.{mastersOn}
-use Rattle.chains.specs.Members.{All}
+use Rattle.chains.specs.Members.{In}
 use Rattle.sound.specs.KeyLaws.{Live}
-use Rattle.keeping.specs.Rows.{Mine, PathRows}
 use Rattle.calls.specs.Call.{Call, callOf}
 use Rattle.calls.specs.Scene.{setNamed}
-use Rattle.calls.specs.Ladder.{generalTests, parameterTests, foundTests, otherMasterTests, finalTests, ladder}
+use Rattle.calls.specs.Ladder.{foundTests}
 use Rattle.calls.specs.LadderLaws.{Passes}
 use Rattle.calls.specs.Outcome.{done, outcome}
-use Rattle.calls.specs.OutcomeLaws.{done-passed}
+use Rattle.keeping.specs.Rows.{PathRows}
+use Rattle.housing.specs.FindLaws.{find-live}
+use Rattle.linking.specs.RowFacts.{row-master}
 use Rattle.lists.specs.Plain.{setOf, entryIn}
 use Rattle.lists.specs.Readings.{Place, setAt, entryAt, pathAt, IsPlace, Exists, noPath}
-use Rattle.lists.specs.Calm.{passes-right}
+use Rattle.lists.specs.PlaceLaws.{place-path}
 use Rattle.lists.specs.Shown.{Ready}
-use Rattle.lists.specs.Outcomes.{outcome-done}
+use Rattle.lists.specs.Outcomes.{outcome-done, done-rungs}
 use Rattle.lists.specs.ReadTests.{masterScene, master-scene, Granted, readm-passes}
-use Rattle.housing.specs.FindLaws.{find-live}
 
 -- ---- a place is a path of the schema
 
 module _ (t : Schema) (ok : SchemaOk t) (w : Place) (p : IsPlace t w) where
-  place-path : IsPathOf t (setAt t w) (pathAt t w)
-  place-path = (by (ltb (setAt t w) (t .masters)) refl, p .set, p .path)
-    where
-      -- a set of masters has no paths
-      by : (q : Bool) → ltb (setAt t w) (t .masters) ≡ q → t .masters ≤ setAt t w
-      by true h = absurd (omega (arith, p .path, ok .master (setAt t w) (ltb-true _ _ h) .none))
-      by false h = ltb-false _ _ h
-
   pub place-variable : isMaster (entryAt t w) ≡ false
-  place-variable = ne-eqb (entryAt t w .kind) 1 (λ e. omega (arith, ok .variable (setAt t w) (place-path .0) (p .set) .kind))
+  place-variable = is-variable t ok (setAt t w) (place-path t w ok p .0) (p .set)
 
   pub place-master : pathOf (entryAt t w) (pathAt t w) .master .0 < t .masters
-  place-master = ok .path (setAt t w) (pathAt t w) place-path .master
+  place-master = ok .path (setAt t w) (pathAt t w) (place-path t w ok p) .master
 
 -- it stands for its rows
 pub place-rows : (s b : List ℕ) (rows : ℕ → ℕ → List ℕ → List ℕ) → Ready s b rows → (w : Place) → IsPlace (schemaOf s) w
     → PathRows (schemaOf s) b (setAt (schemaOf s) w) (pathAt (schemaOf s) w) (rows (setAt (schemaOf s) w) (pathAt (schemaOf s) w))
-place-rows s b rows g w p = g .stands .paths (setAt (schemaOf s) w) (pathAt (schemaOf s) w) (place-path (schemaOf s) (g .world .ok) w p)
+place-rows s b rows g w p = g .stands .paths (setAt (schemaOf s) w) (pathAt (schemaOf s) w) (place-path (schemaOf s) w (g .world .ok) p)
 
 -- ---- what a call with the key of a live master has
 
@@ -97,13 +88,8 @@ at-found Damaged d m = absurd (never-both true refl d)
 
 -- a READM that is done has found a master
 found-by : (c : Call) → c .operation ≡ text "READM" → outcome c .status ≡ Done → (m : ℕ) × Live (c .base) (entryIn c) m × (masterKey (c .base) (entryIn c) m ≡ c .key)
-unfolding ladder
 found-by c o h =
-    let x = masterScene c in
-    let passed : Passes (ladder (masterScene c) c) = rw (master-scene c o) at (done-passed c h) in
-    let tests =
-    passes-right (parameterTests x c) (foundTests x c ++ (otherMasterTests x c ++ finalTests x c))
-    (passes-right (generalTests x c) (parameterTests x c ++ (foundTests x c ++ (otherMasterTests x c ++ finalTests x c))) passed) in
+    let tests : Passes (foundTests (masterScene c) c) = rw (master-scene c o) at (done-rungs c h .found) in
     let q = at-found (find (c .base) (entryIn c) (c .key)) (tests .0) (tests .1 .0) in
     let z = find-at (c .base) (entryIn c) (c .key) (q .0) (q .1) in
     (q .0 .0, (z .in-set, z .live), z .keyed)
@@ -119,21 +105,22 @@ module _ (s b : List ℕ) (rows : ℕ → ℕ → List ℕ → List ℕ) (g : Re
   pub exists-says : Exists outcome s b w key → (m : ℕ) × Live b x m × (masterKey b x m ≡ key)
   exists-says h = rw (p .masters) at (found-by (callOf (text "READM") (w .masters) 0 noPath key (w .master-area) s b) refl h)
 
-  pub exists-holds : (m : ℕ) → Live b x m → masterKey b x m ≡ key → Exists outcome s b w key
+  exists-holds : (m : ℕ) → Live b x m → masterKey b x m ≡ key → Exists outcome s b w key
   unfolding done
   exists-holds m l k =
       let c = callOf (text "READM") (w .masters) 0 noPath key (w .master-area) s b in
       let ok = g .world .ok in
       let n : setNamed t (w .masters) < t .masters = rw (p .masters) (place-master t ok w p) in
-      let kind : isMaster (entryIn c) ≡ true = eq-eqb _ _ (ok .master (setNamed t (w .masters)) n .kind) in
+      let kind : isMaster (entryIn c) ≡ true = is-master t ok (setNamed t (w .masters)) n in
       let f : Granted (entryIn c) m c =
       granted c rows (setNamed t (w .masters)) m g n (rw (p .masters) l) (rw (p .masters) k) (omega arith) (p .master-area) in
       rw (outcome-done c (rw (master-scene c refl) (readm-passes c m f kind))) refl
 
   -- a record in the row is owned by a master of that key
   pub row-or-exists : (rows (setAt t w) (pathAt t w) key ≡ []) ⊎ Exists outcome s b w key
-  row-or-exists = by (rows (setAt t w) (pathAt t w) key) (place-rows s b rows g w p .mine key)
+  row-or-exists =
+      by (rows (setAt t w) (pathAt t w) key) (row-master t b (setAt t w) (pathAt t w) (rows (setAt t w) (pathAt t w)) key (place-rows s b rows g w p))
     where
-      by : (rs : List ℕ) → All (Mine t b (setAt t w) (pathAt t w) key) rs → (rs ≡ []) ⊎ Exists outcome s b w key
+      by : (rs : List ℕ) → ((r : ℕ) → In r rs → (m : ℕ) × Live b x m × (masterKey b x m ≡ key)) → (rs ≡ []) ⊎ Exists outcome s b w key
       by [] h = inl refl
-      by (r ∷ rs) h = let o = place-rows s b rows g w p .owned r (h .0 .0) in inr (exists-holds (o .0) (o .1) (o .2 ∙ h .0 .1))
+      by (r ∷ rs) h = let o = h r (inl refl) in inr (exists-holds (o .0) (o .1) (o .2))

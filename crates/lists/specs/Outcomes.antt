@@ -1,10 +1,15 @@
 -- The outcome of a call that passes every test is the reply, and the other way round: a call that is done has passed every test. The ladder
--- is passed group by group, and the groups of a ladder that is passed.
+-- is passed if each of its groups is, and the other way round.
+use Prim.Native.Nat.{ℕ}
 use mathlib.Core.Path.{_≡_, refl}
-use mathlib.Core.List.{_++_}
+use mathlib.Core.Logic.{_≢_}
+use mathlib.Core.List.{List, _++_}
 use Rattle.terms.specs.declared.Status.the-variants.{Done}
-use Rattle.calls.specs.Call.{Call}
+use Rattle.schema.specs.declared.Entry.{Entry}
+use Rattle.records.specs.Areas.{areaOf}
+use Rattle.calls.specs.Call.{Call, Outcome}
 use Rattle.calls.specs.Scene.{Scene, sceneOf}
+use Rattle.calls.specs.Reply.{orEnd}
 use Rattle.calls.specs.Ladder.{generalTests, parameterTests, foundTests, otherMasterTests, finalTests, ladder}
 use Rattle.calls.specs.LadderLaws.{Passes, refusal-done, passes-append}
 use Rattle.calls.specs.Outcome.{done, outcomeIn, outcome}
@@ -52,3 +57,9 @@ done-is c h = outcome-done c (done-passed c h)
 
 pub done-rungs : (c : Call) → outcome c .status ≡ Done → Rungs (sceneOf c) c
 done-rungs c h = rungs-of (sceneOf c) c (done-passed c h)
+
+-- an answer that gives the record n of set e; where n is 0 it says END.
+pub record Gives (b : List ℕ) (e : Entry) (o : Outcome) (n : ℕ) : Type 0 where
+  pub status : o .status ≡ Done
+  pub reference : o .reference ≡ orEnd n
+  pub area : n ≢ 0 → o .area ≡ areaOf b e n

@@ -1,5 +1,6 @@
 -- What a call that has passed its tests of parameters knows, in the words of the proof. `t` is the schema, `c` the call; its set is number
--- `n`, with the entry `e`, and the named path is number `j` of it.
+-- `n`, with the entry `e`, and the named path is number `j` of it. The numbers over the lemmas, 4 to 11, are those of the tests in document 01,
+-- "Status numbers".
 use Prim.Native.Nat.{ℕ, _<_}
 use mathlib.Core.Path.{_≡_, refl}
 use mathlib.Core.Bool.{Bool, true, false, cond, not, _&&_, _||_}
@@ -70,7 +71,7 @@ module _ (t : Schema) (ok : SchemaOk t) (c : Call) where
 
   module _ (h : Passes (parameterTests (sceneUnder t c) c)) where
     -- 4
-    pub set-known : oneOf o (Formt ∷ Sinon ∷ []) ≡ false → n < setCount t
+    set-known : oneOf o (Formt ∷ Sinon ∷ []) ≡ false → n < setCount t
     unfolding sceneUnder
     set-known q = ltb-true _ _ (not-false _ (unasked (oneOf o (Formt ∷ Sinon ∷ [])) _ (h .0) q))
 

@@ -7,7 +7,7 @@ use mathlib.Core.Bool.{Bool, true, false}
 use mathlib.Core.List.{List}
 use native.Mathlib.Omega.{arith}
 use lib.Dec.{eqb, ltb}
-use lib.ListN.{length-replicate}
+use lib.ListN.{length, length-replicate}
 use borrow.Author.Tests.{eqb-true, eq-eqb, ltb-true, ltb-false}
 use Rattle.octets.specs.Octets.{wordAt, wordBytes, sameBytes, zeros}
 use Rattle.octets.specs.Below.{lowest}
@@ -106,9 +106,15 @@ module _ (t : Schema) (ok : SchemaOk t) (small : (k : ℕ) → k < setCount t �
         master-area = rw masters-there (length-replicate _ 0);
       }
 
+  -- four letters of the masters, LK and two letters
+  path-length : length (placeOn t i j .path) ≡ 8
+  path-length = omega (arith, ok .path i j h .letters)
+
 pub every-path : (s : List ℕ) → keepsRules s ≡ true → (i j : ℕ) → IsPathOf (schemaOf s) i j
     → (w : Place) × IsPlace (schemaOf s) w × (setAt (schemaOf s) w ≡ i) × (pathAt (schemaOf s) w ≡ j)
+    × (length (w .set) ≡ 4) × (length (w .path) ≡ 8) × (length (w .masters) ≡ 4)
 every-path s kept i j h =
     let ok = guaranteed s kept in
     let small = name-small s kept in
-    (placeOn (schemaOf s) i j, there (schemaOf s) ok small i j h, set-there (schemaOf s) ok small i j h, path-there (schemaOf s) ok small i j h)
+    let t = schemaOf s in
+    (placeOn t i j, there t ok small i j h, set-there t ok small i j h, path-there t ok small i j h, refl, path-length t ok small i j h, refl)

@@ -12,23 +12,19 @@ use Rattle.records.specs.Areas.{areaOf, areaKeyOn}
 use Rattle.chains.specs.Members.{In, Fresh, NoDup}
 use Rattle.lists.specs.Plain.{Point}
 use Rattle.lists.specs.Readings.{ofKey, Among, NotNumbered, Once, SameOnce}
-use Rattle.lists.specs.Shown.{shown}
+use Rattle.lists.specs.Shown.{pointOf, shown}
 
 -- ---- records shown
 
 module _ (b : List ℕ) (e : Entry) where
-  -- record r as a point
-  abbrev pointOf : ℕ → Point
-  pointOf r = record { number = r; area = areaOf b e r }
-
-  among-shown : (x : Point) (rs : List ℕ) → Among x (shown b e rs) → (r : ℕ) × In r rs × (x ≡ pointOf r)
+  among-shown : (x : Point) (rs : List ℕ) → Among x (shown b e rs) → (r : ℕ) × In r rs × (x ≡ pointOf b e r)
   among-shown x [] m = absurd m
   among-shown x (r ∷ rs) (inl q) = (r, inl refl, q)
   among-shown x (r ∷ rs) (inr m) = let t = among-shown x rs m in (t .0, inr (t .1), t .2)
 
-  shown-among : (r : ℕ) (rs : List ℕ) → In r rs → Among (pointOf r) (shown b e rs)
+  shown-among : (r : ℕ) (rs : List ℕ) → In r rs → Among (pointOf b e r) (shown b e rs)
   shown-among r [] m = absurd m
-  shown-among r (q ∷ rs) (inl d) = inl (ap pointOf d)
+  shown-among r (q ∷ rs) (inl d) = inl (ap (pointOf b e) d)
   shown-among r (q ∷ rs) (inr m) = inr (shown-among r rs m)
 
   shown-fresh : (r : ℕ) (rs : List ℕ) → Fresh r rs → NotNumbered r (shown b e rs)

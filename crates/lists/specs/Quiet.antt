@@ -2,18 +2,16 @@
 -- search finds its key or misses it, neighbours are on the chain, and every block stored into has a true check.
 use Prim.Native.Nat.{ℕ, _<_}
 use mathlib.Core.Path.{_≡_, refl, sym, ap}
-use mathlib.Core.Logic.{_≢_, _⊎_, inl, inr}
-use mathlib.Core.Bool.{Bool, true, false, not}
+use mathlib.Core.Logic.{_≢_, inl, inr}
+use mathlib.Core.Bool.{true, false, not}
 use mathlib.Core.List.{List, [], _∷_, _++_}
 use native.Mathlib.Omega.{arith}
 use lib.Dec.{eqb, lit<}
 use Rattle.octets.specs.Below.{concatBelow}
-use Rattle.terms.specs.declared.Status.{Status}
 use Rattle.terms.specs.declared.Status.the-variants.{Mrnf, Imdl, Full, Damg}
 use Rattle.terms.specs.declared.Operation.{Operation}
 use Rattle.terms.specs.declared.Operation.the-variants.{Formt, Sinon, AddM, DelM, Readm, Writm, Rqloc, Rdnxt, Readv, Readr, Readd, Writv, Addvc, Addvb, Addva, Delvd, Unknown}
 use Rattle.terms.specs.Operation.{operationOf}
-use Rattle.terms.specs.Status.{statusNumber}
 use Rattle.terms.specs.Laws.{home-in-set}
 use Rattle.schema.specs.declared.Entry.{Entry}
 use Rattle.schema.specs.declared.Schema.{Schema}
@@ -28,32 +26,29 @@ use Rattle.masters.specs.Find.{find, homeIn, ownHome, recordFound, isAt, isMiss
 use Rattle.masters.specs.Root.{addMasterFull, addMasterDamaged, delMasterDamaged}
 use Rattle.chains.specs.Chains.{readDamaged, hasPoints}
 use Rattle.chains.specs.Points.{findOn, addDamaged, delDamaged, addStores}
-use Rattle.keeping.specs.Tests.{AddTests}
-use Rattle.housing.specs.FindLaws.{find-quiet, find-at}
-use Rattle.housing.specs.QuietLaws.{add-master-quiet, del-master-quiet}
 use Rattle.calls.specs.Call.{Call, oneOf, adds}
-use Rattle.calls.specs.Scene.{Scene, setNamed, pathNamed, sceneUnder}
+use Rattle.calls.specs.Scene.{Scene, sceneUnder}
 use Rattle.calls.specs.Ladder.{on, isLink, finders, generalTests, parameterTests, foundTests, masterTests, otherMasterTests, finalTests, ladder}
 use Rattle.calls.specs.LadderLaws.{Passes}
 use Rattle.calls.specs.Outcome.{outcome}
 use Rattle.calls.specs.Theorems.{status-of-ladder}
 use Rattle.calls.specs.Reply.{masterIn, homeOfKey, forward, backward, spotOf, storesBy, storesOf}
-use Rattle.lists.specs.Calm.{Calm, calm-refusal, calm-append, calm-below, others-calm, if-asked}
-use Rattle.lists.specs.Passed.{on-masters, on-points}
-use Rattle.lists.specs.Operations.{Kinds, kinds, one-of, some-add}
-use Rattle.lists.specs.CallTests.{found-master, found-point, add-master-tests, del-master-tests, write-master-tests, del-tests, write-tests, add-tests}
-use Rattle.lists.specs.QuietReads.{forward-quiet, backward-quiet}
-use Rattle.lists.specs.Shown.{Ready}
+use Rattle.keeping.specs.Tests.{AddTests}
+use Rattle.housing.specs.FindLaws.{find-quiet, find-at}
+use Rattle.housing.specs.QuietLaws.{add-master-quiet, del-master-quiet}
+use Rattle.housing.specs.MasterSteps.{add-master-storable, del-master-storable, write-master-storable}
 use Rattle.linking.specs.Neighbours.{add-quiet, del-quiet, own-found}
 use Rattle.linking.specs.Standing.{represents-sound}
 use Rattle.linking.specs.AddSteps.{add-storable}
 use Rattle.linking.specs.DelSteps.{del-storable}
 use Rattle.linking.specs.WriteSteps.{write-storable}
-use Rattle.housing.specs.MasterSteps.{add-master-storable, del-master-storable, write-master-storable}
-
--- a test of another status
-mild : (s : Status) (f : Bool) → statusNumber s < 16 → (s ≢ Damg) ⊎ (f ≡ false)
-mild s f l = inl (λ e. let z : statusNumber s ≡ 16 = ap statusNumber e in omega arith)
+use Rattle.lists.specs.Plain.{setOf, entryIn, pathIn}
+use Rattle.lists.specs.Shown.{Ready}
+use Rattle.lists.specs.Calm.{Calm, calm-test, calm-refusal, calm-append, calm-below, mild, others-calm, if-asked}
+use Rattle.lists.specs.Operations.{Kinds, kinds, one-of, some-add}
+use Rattle.lists.specs.Passed.{on-masters, on-points}
+use Rattle.lists.specs.CallTests.{found-master, found-point, add-master-tests, del-master-tests, write-master-tests, del-tests, write-tests, add-tests}
+use Rattle.lists.specs.QuietReads.{forward-quiet, backward-quiet}
 
 not-missing : (f : Found) → isAt f ≡ true → isMissing f ≡ false
 not-missing (At r) h = refl
@@ -76,13 +71,13 @@ module _ (c : Call) (rows : ℕ → ℕ → List ℕ → List ℕ) (g : Ready (c
   o = operationOf (c .operation)
 
   abbrev n : ℕ
-  n = setNamed t (c .name)
+  n = setOf c
 
   abbrev e : Entry
-  e = entryOf t n
+  e = entryIn c
 
   abbrev j : ℕ
-  j = pathNamed t e (c .path)
+  j = pathIn c
 
   -- a search in a set of masters
   seek-quiet : (k : ℕ) (key : List ℕ) → k < t .masters → isDamaged (find b (entryOf t k) key) ≡ false
@@ -101,18 +96,21 @@ module _ (c : Call) (rows : ℕ → ℕ → List ℕ → List ℕ) (g : Ready (c
 
     calm-found : Calm (foundTests x c)
     unfolding sceneUnder
-    calm-found = (
-      inr (if-asked (oneOf o finders) (isDamaged (x .found)) found-quiet),
-      λ d.
-          (mild _ _ (lit< tt), λ d. (mild _ _ (lit< tt), λ d. (mild _ _ (lit< tt), λ d. (mild _ _ (lit< tt), λ d. (mild _ _ (lit< tt), λ d. tt))))),
-    )
+    calm-found =
+        calm-test (inr (if-asked (oneOf o finders) (isDamaged (x .found)) found-quiet)) (λ d.
+        calm-test (mild _ _ (lit< tt)) (λ d.
+        calm-test (mild _ _ (lit< tt)) (λ d.
+        calm-test (mild _ _ (lit< tt)) (λ d.
+        calm-test (mild _ _ (lit< tt)) (λ d.
+        calm-test (mild _ _ (lit< tt)) (λ d. tt))))))
 
     -- the other paths' masters: those of an add are found or not, those of a live record are found
     adds-calm : Calm (concatBelow (masterTests x c adds Mrnf (areaKeyOn (x .entry) (c .area))) (x .entry .count))
     unfolding sceneUnder
     adds-calm =
         calm-below (masterTests x c adds Mrnf (areaKeyOn e (c .area))) (e .count) (λ k l.
-        (inr (if-asked (oneOf o adds) _ (λ q. if-asked (not (eqb k j)) _ (λ d. path-quiet n k (areaKeyOn e (c .area) k) (add-path q k l)))), λ d. (mild _ _ (lit< tt), λ d. tt)))
+        calm-test (inr (if-asked (oneOf o adds) _ (λ q. if-asked (not (eqb k j)) _ (λ d. path-quiet n k (areaKeyOn e (c .area) k) (add-path q k l))))) (λ d.
+        calm-test (mild _ _ (lit< tt)) (λ d. tt)))
       where
         add-path : oneOf o adds ≡ true → (k : ℕ) → k < e .count → IsPathOf t n k
         add-path q k l = let a = some-add o q in let m = on-points t (g .world .ok) c p (a .0) (a .1) .0 in (m .0, m .1, l)
@@ -120,11 +118,9 @@ module _ (c : Call) (rows : ℕ → ℕ → List ℕ → List ℕ) (g : Ready (c
     own-calm : Passes (foundTests x c) → Calm (concatBelow (masterTests x c (Delvd ∷ []) Damg (λ k. keyOn (c .base) (x .entry) (c .reference) (pathOf (x .entry) k))) (x .entry .count))
     unfolding sceneUnder
     own-calm f =
-        calm-below (masterTests x c (Delvd ∷ []) Damg (λ k. keyOn b e (c .reference) (pathOf e k))) (e .count) (λ k l. (
-          inr (if-asked (oneOf o (Delvd ∷ [])) _ (λ q. if-asked (not (eqb k j)) _ (λ d. path-quiet n k (keyOn b e (c .reference) (pathOf e k)) (del-path q k l)))),
-          λ d.
-              (inr (if-asked (oneOf o (Delvd ∷ [])) _ (λ q. if-asked (not (eqb k j)) _ (λ d. not-missing (findOn b t e k (keyOn b e (c .reference) (pathOf e k))) (at q k l)))), λ d. tt),
-        ))
+        calm-below (masterTests x c (Delvd ∷ []) Damg (λ k. keyOn b e (c .reference) (pathOf e k))) (e .count) (λ k l.
+        calm-test (inr (if-asked (oneOf o (Delvd ∷ [])) _ (λ q. if-asked (not (eqb k j)) _ (λ d. path-quiet n k (keyOn b e (c .reference) (pathOf e k)) (del-path q k l))))) (λ d.
+        calm-test (inr (if-asked (oneOf o (Delvd ∷ [])) _ (λ q. if-asked (not (eqb k j)) _ (λ d. not-missing (findOn b t e k (keyOn b e (c .reference) (pathOf e k))) (at q k l))))) (λ d. tt)))
       where
         del-path : oneOf o (Delvd ∷ []) ≡ true → (k : ℕ) → k < e .count → IsPathOf t n k
         del-path q k l = let u = one-of o Delvd q in let m = on-points t (g .world .ok) c p (rw u refl) (rw u refl) .0 in (m .0, m .1, l)
@@ -207,38 +203,18 @@ module _ (c : Call) (rows : ℕ → ℕ → List ℕ → List ℕ) (g : Ready (c
 
       calm-final : Calm (finalTests x c)
       unfolding sceneUnder
-      calm-final = (
-        mild _ _ (lit< tt),
-        λ im. (
-          mild _ _ (lit< tt),
-          λ fm. (
-            mild _ _ (lit< tt),
-            λ fa. (
-              inr (if-asked (oneOf o (Sinon ∷ [])) _ (λ q. rw (represents-sound t b rows (g .world) (g .stands)) refl)),
-              λ d. (
-                inr (if-asked (oneOf o (Readv ∷ [])) _ readv-quiet),
-                λ d. (
-                  inr (if-asked (oneOf o (Readr ∷ [])) _ readr-quiet),
-                  λ d. (
-                    inr (if-asked (oneOf o (AddM ∷ [])) _ addm-quiet),
-                    λ d. (
-                      inr (if-asked (oneOf o (DelM ∷ [])) _ (λ q. delm-quiet q im)),
-                      λ d. (
-                        inr (if-asked (oneOf o adds) _ (λ q. adds-quiet q fa)),
-                        λ d. (
-                          inr (if-asked (oneOf o (Delvd ∷ [])) _ delvd-quiet),
-                          λ d.
-                              (inr (rw (sealed im fm fa) refl), λ d. tt),
-                        ),
-                      ),
-                    ),
-                  ),
-                ),
-              ),
-            ),
-          ),
-        ),
-      )
+      calm-final =
+          calm-test (mild _ _ (lit< tt)) (λ im.
+          calm-test (mild _ _ (lit< tt)) (λ fm.
+          calm-test (mild _ _ (lit< tt)) (λ fa.
+          calm-test (inr (if-asked (oneOf o (Sinon ∷ [])) _ (λ q. ap not (represents-sound t b rows (g .world) (g .stands))))) (λ d.
+          calm-test (inr (if-asked (oneOf o (Readv ∷ [])) _ readv-quiet)) (λ d.
+          calm-test (inr (if-asked (oneOf o (Readr ∷ [])) _ readr-quiet)) (λ d.
+          calm-test (inr (if-asked (oneOf o (AddM ∷ [])) _ addm-quiet)) (λ d.
+          calm-test (inr (if-asked (oneOf o (DelM ∷ [])) _ (λ q. delm-quiet q im))) (λ d.
+          calm-test (inr (if-asked (oneOf o adds) _ (λ q. adds-quiet q fa))) (λ d.
+          calm-test (inr (if-asked (oneOf o (Delvd ∷ [])) _ delvd-quiet)) (λ d.
+          calm-test (inr (ap not (sealed im fm fa))) (λ d. tt)))))))))))
 
   calm-ladder : Calm (ladder x c)
   unfolding ladder

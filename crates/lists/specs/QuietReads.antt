@@ -12,7 +12,7 @@ use Rattle.terms.specs.declared.Operation.the-variants.{Formt, Sinon, AddM, Del
 use Rattle.terms.specs.Operation.{operationOf}
 use Rattle.schema.specs.declared.Entry.{Entry}
 use Rattle.schema.specs.declared.Schema.{Schema}
-use Rattle.schema.specs.Decode.{entryOf, pathOf, schemaOf}
+use Rattle.schema.specs.Decode.{pathOf, schemaOf}
 use Rattle.schema.specs.Place.{InSet, inSet}
 use Rattle.schema.specs.Guarantee.{IsPathOf}
 use Rattle.records.specs.Records.{masterKey, firstOn, lastOn, nextOn, priorOn}
@@ -23,18 +23,19 @@ use Rattle.chains.specs.Points.{mastersOn, findOn}
 use Rattle.chains.specs.Members.{In, in-left, in-right}
 use Rattle.chains.specs.Segments.{lastOr, headOr, at-ends}
 use Rattle.sound.specs.KeyLaws.{Live}
-use Rattle.keeping.specs.Rows.{nextNode, priorNode, Mine, PathRows}
-use Rattle.housing.specs.FindLaws.{find-at}
-use Rattle.linking.specs.Neighbours.{read-quiet, point-cut}
 use Rattle.calls.specs.Call.{Call, oneOf, variableCalls}
-use Rattle.calls.specs.Scene.{Scene, setNamed, pathNamed, sceneUnder}
+use Rattle.calls.specs.Scene.{Scene, sceneUnder}
 use Rattle.calls.specs.Ladder.{isLink, parameterTests, foundTests}
 use Rattle.calls.specs.LadderLaws.{Passes}
 use Rattle.calls.specs.Reply.{linkOf, masterIn, forward, backward}
+use Rattle.keeping.specs.Rows.{nextNode, priorNode, Mine, PathRows}
+use Rattle.housing.specs.FindLaws.{find-at}
+use Rattle.linking.specs.Neighbours.{read-quiet, point-cut}
+use Rattle.lists.specs.Plain.{setOf, entryIn, pathIn}
+use Rattle.lists.specs.Shown.{Ready}
 use Rattle.lists.specs.Calm.{asked}
 use Rattle.lists.specs.Passed.{on-points}
 use Rattle.lists.specs.CallTests.{point-told, point-master}
-use Rattle.lists.specs.Shown.{Ready}
 
 -- ---- ends of lists
 
@@ -78,13 +79,13 @@ module _ (c : Call) (rows : ℕ → ℕ → List ℕ → List ℕ) (g : Ready (c
   o = operationOf (c .operation)
 
   abbrev n : ℕ
-  n = setNamed t (c .name)
+  n = setOf c
 
   abbrev e : Entry
-  e = entryOf t n
+  e = entryIn c
 
   abbrev j : ℕ
-  j = pathNamed t e (c .path)
+  j = pathIn c
 
   abbrev masters : Entry
   masters = mastersOn t e j

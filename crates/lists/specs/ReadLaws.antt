@@ -2,33 +2,31 @@
 -- a call that stands at a node gives what the pointer of that node leads to, and the next call stands there. LKxx stands at node 0, the head.
 use Prim.Native.Nat.{ℕ, _≤_}
 use mathlib.Core.Path.{_≡_, refl, sym, _∙_}
-use mathlib.Core.Logic.{_⊎_, inl, inr}
-use mathlib.Core.Bool.{Bool, true, false, cond}
+use mathlib.Core.Logic.{_≢_, _⊎_, inl, inr}
+use mathlib.Core.Bool.{Bool, true, false}
 use mathlib.Core.List.{List, [], _∷_, reverse, reverseAux}
 use native.Mathlib.Omega.{arith}
-use lib.Dec.{eqb}
 use borrow.Author.Tests.{eq-eqb, ne-eqb, le-leb}
 use Rattle.octets.specs.RunLaws.{eq-sameBytes}
-use Rattle.terms.specs.declared.Status.the-variants.{Done}
 use Rattle.schema.specs.declared.Entry.{Entry}
 use Rattle.schema.specs.declared.Schema.{Schema}
 use Rattle.schema.specs.Decode.{pathOf, schemaOf}
 use Rattle.records.specs.Records.{masterKey}
-use Rattle.records.specs.Areas.{areaOf}
 use Rattle.chains.specs.Points.{mastersOn}
 use Rattle.chains.specs.Members.{All, In}
-use Rattle.chains.specs.Segments.{Run, Seg, seg-run, seg-reverse, headed-at}
+use Rattle.chains.specs.Segments.{Run, seg-run, seg-reverse, headed-at}
 use Rattle.sound.specs.KeyLaws.{Live}
-use Rattle.keeping.specs.Rows.{Mine, nextNode, priorNode}
-use Rattle.calls.specs.Call.{Call, Outcome, callOf}
-use Rattle.calls.specs.Reply.{orEnd, givenBy, given, referenceAfter, areaAfter}
+use Rattle.calls.specs.Call.{Call, callOf}
+use Rattle.calls.specs.Reply.{givenBy, given, referenceAfter, areaAfter}
 use Rattle.calls.specs.Outcome.{done, outcome}
+use Rattle.keeping.specs.Rows.{Mine, nextNode, priorNode}
+use Rattle.linking.specs.RowFacts.{row-chain}
+use Rattle.linking.specs.Neighbours.{read-quiet}
 use Rattle.lists.specs.Readings.{Reads, Place, setAt, entryAt, pathAt, IsPlace, Exists, readv, readr, link}
 use Rattle.lists.specs.Shown.{shown, Ready}
-use Rattle.lists.specs.Outcomes.{outcome-done}
+use Rattle.lists.specs.Outcomes.{outcome-done, Gives}
 use Rattle.lists.specs.ReadTests.{readOf, readText, chainScene, chain-scene, Granted, Followed, read-passes}
 use Rattle.lists.specs.ExistsLaws.{place-variable, place-master, granted, place-rows, exists-says}
-use Rattle.linking.specs.Neighbours.{read-quiet}
 
 -- what holds of all elements holds of all of the reverse
 all-turned : (P : ℕ → Type 0) (xs ys : List ℕ) → All P xs → All P ys → All P (reverseAux xs ys)
@@ -36,15 +34,10 @@ all-turned P [] ys h k = k
 all-turned P (x ∷ xs) ys h k = all-turned P xs (x ∷ ys) (h .1) (h .0, k)
 
 -- the answer of READV or READR that is done and comes to record n, or to the end where n is 0
-record Gives (o : Outcome) (c : Call) (e : Entry) (n : ℕ) : Type 0 where
-  pub status : o .status ≡ Done
-  pub reference : o .reference ≡ orEnd n
-  pub area : o .area ≡ cond (eqb n 0) (c .area) (areaOf (c .base) e n)
-
-gives : (back : Bool) (c : Call) (n : ℕ) → givenBy (readOf back) (chainScene back c) c ≡ n → Gives (done (chainScene back c) c) c (chainScene back c .entry) n
+gives : (back : Bool) (c : Call) (n : ℕ) → givenBy (readOf back) (chainScene back c) c ≡ n → Gives (c .base) (chainScene back c .entry) (done (chainScene back c) c) n
 unfolding done referenceAfter areaAfter given
-gives true c n q = record { status = refl; reference = rw q refl; area = rw q refl }
-gives false c n q = record { status = refl; reference = rw q refl; area = rw q refl }
+gives true c n q = record { status = refl; reference = rw q refl; area = λ d. rw (q, ne-eqb n 0 d) refl }
+gives false c n q = record { status = refl; reference = rw q refl; area = λ d. rw (q, ne-eqb n 0 d) refl }
 
 module _ (s b : List ℕ) (rows : ℕ → ℕ → List ℕ → List ℕ) (g : Ready s b rows) (w : Place) (p : IsPlace (schemaOf s) w) (key : List ℕ) where
   abbrev t : Schema
@@ -115,7 +108,7 @@ module _ (s b : List ℕ) (rows : ℕ → ℕ → List ℕ → List ℕ) (g : Re
 
     -- and answers it
     answers : (back linked : Bool) (r n : ℕ) → Followed linked (call back r) → givenBy (readOf back) (chainScene back (call back r)) (call back r) ≡ n
-        → (n ≡ 0) ⊎ In n (rows i j key) → Gives (outcome (call back r)) (call back r) e n
+        → (n ≡ 0) ⊎ In n (rows i j key) → Gives b e (outcome (call back r)) n
     answers back linked r n f q h =
         let quiet = read-quiet t b i j (rows i j) m key linked n (place-rows s b rows g w p) l k h in
         let c = call back r in
@@ -130,22 +123,18 @@ module _ (s b : List ℕ) (rows : ℕ → ℕ → List ℕ → List ℕ) (g : Re
     reads back linked r a (y ∷ ys) f q run h =
         let z = answers back linked r y f (q ∙ run .0) (inr (rw (h .0 .1) at (place-rows s b rows g w p .full y (h .0 .0)))) in
         let some = low y (h .0 .0) in
-        let not0 : eqb y 0 ≡ false = ne-eqb y 0 (omega arith) in
-        (z .status, rw not0 at (z .reference), rw not0 at (z .area), omega arith, reads back false y y ys (at-record back y (h .0)) (given-record back y (h .0)) (run .1) (h .1))
-
-  -- the chain of the master
-  chain-of : (m : ℕ) → Live b x m → masterKey b x m ≡ key → Seg (nextNode t b i j m) (priorNode t b i j m) 0 (rows i j key) 0
-  chain-of m l k = rw k at (place-rows s b rows g w p .chain m l)
+        let not0 : y ≢ 0 = λ k. omega arith in
+        (z .status, rw (ne-eqb y 0 not0) at (z .reference), z .area not0, omega arith, reads back false y y ys (at-record back y (h .0)) (given-record back y (h .0)) (run .1) (h .1))
 
   pub reads-forward : Exists outcome s b w key → Reads (readv outcome s b w key) (link (schemaOf s) w) (shown b e (rows i j key))
   reads-forward h =
       let o = exists-says s b rows g w p key h in
       reads (o .0) (o .1) (o .2) false true (link (schemaOf s) w) 0 (rows i j key) (at-link false) (given-link (o .0) (o .1) (o .2) false)
-      (seg-run _ _ 0 (rows i j key) (chain-of (o .0) (o .1) (o .2))) (place-rows s b rows g w p .mine key)
+      (seg-run _ _ 0 (rows i j key) (row-chain t b i j (rows i j) key (place-rows s b rows g w p) (o .0) (o .1) (o .2))) (place-rows s b rows g w p .mine key)
 
   pub reads-backward : Exists outcome s b w key → Reads (readr outcome s b w key) (link (schemaOf s) w) (shown b e (reverse (rows i j key)))
   reads-backward h =
       let o = exists-says s b rows g w p key h in
       reads (o .0) (o .1) (o .2) true true (link (schemaOf s) w) 0 (reverse (rows i j key)) (at-link true) (given-link (o .0) (o .1) (o .2) true)
-      (seg-run _ _ 0 (reverse (rows i j key)) (seg-reverse _ _ 0 (rows i j key) 0 (chain-of (o .0) (o .1) (o .2))))
+      (seg-run _ _ 0 (reverse (rows i j key)) (seg-reverse _ _ 0 (rows i j key) 0 (row-chain t b i j (rows i j) key (place-rows s b rows g w p) (o .0) (o .1) (o .2))))
       (all-turned mine (rows i j key) [] (place-rows s b rows g w p .mine key) tt)

@@ -28,8 +28,8 @@ use Rattle.calls.specs.Scene.{Scene, sceneOn, sceneUnder, sceneOf}
 use Rattle.calls.specs.Reply.{linkOf, givenBy, storesOf}
 use Rattle.calls.specs.Ladder.{wrongKind, generalTests, parameterTests, foundTests, ladder}
 use Rattle.calls.specs.LadderLaws.{Passes, others-pass}
-use Rattle.lists.specs.Outcomes.{climbed}
 use Rattle.lists.specs.Plain.{setOf, entryIn, pathIn}
+use Rattle.lists.specs.Outcomes.{climbed}
 
 -- ---- the three operations
 

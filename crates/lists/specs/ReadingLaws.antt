@@ -1,5 +1,5 @@
 -- A reading is one: what the calls give from a reference on is at most one list. Each call has one answer; an answer that is a record's number
--- is not END, so two readings go on together or end together.
+-- is not END., so two readings go on together or end together.
 use Prim.Native.Nat.{ℕ}
 use mathlib.Core.Path.{_≡_, refl, sym, _∙_}
 use mathlib.Core.List.{List, [], _∷_}

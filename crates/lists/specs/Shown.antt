@@ -11,9 +11,12 @@ use Rattle.keeping.specs.Rows.{World, Represents}
 use Rattle.lists.specs.Plain.{Point}
 
 -- records shown as points: their numbers, and their areas as a read gives them
+abbrev pub pointOf : List ℕ → Entry → ℕ → Point
+pointOf b e r = record { number = r; area = areaOf b e r }
+
 abbrev pub shown : List ℕ → Entry → List ℕ → List Point
 shown b e [] = []
-shown b e (r ∷ rs) = record { number = r; area = areaOf b e r } ∷ shown b e rs
+shown b e (r ∷ rs) = pointOf b e r ∷ shown b e rs
 
 -- a schema that keeps the rules, and a data base under it that stands for the rows
 pub record Ready (s b : List ℕ) (rows : ℕ → ℕ → List ℕ → List ℕ) : Type 0 where

@@ -11,11 +11,7 @@ use Rattle.records.specs.Areas.{areaOf}
 use Rattle.chains.specs.Members.{All}
 use Rattle.keeping.specs.Rows.{putAfter, putBefore, without}
 use Rattle.lists.specs.Plain.{Point, before, behind, takenOut, rewritten}
-use Rattle.lists.specs.Shown.{shown}
-
--- the point of a record
-abbrev pub pointOf : List ℕ → Entry → ℕ → Point
-pointOf b e r = record { number = r; area = areaOf b e r }
+use Rattle.lists.specs.Shown.{pointOf, shown}
 
 -- records that read into the same areas
 pub shown-same : (b c : List ℕ) (e : Entry) (rs : List ℕ) → All (λ r. areaOf c e r ≡ areaOf b e r) rs → shown b e rs ≡ shown c e rs

@@ -16,26 +16,26 @@ use Rattle.terms.specs.Status.{statusNumber}
 use Rattle.terms.specs.Laws.{status-number-one}
 use Rattle.schema.specs.declared.Entry.{Entry}
 use Rattle.schema.specs.declared.Schema.{Schema}
-use Rattle.schema.specs.Decode.{entryOf, schemaOf}
+use Rattle.schema.specs.Decode.{schemaOf}
 use Rattle.plans.specs.Plan.{storeAll, sealAll, committed, formatted}
 use Rattle.chains.specs.declared.Spot.the-variants.{Last, After, Before}
-use Rattle.keeping.specs.Tests.{AddTests}
-use Rattle.keeping.specs.FreshLaws.{format-represents}
-use Rattle.housing.specs.MasterStep.{MasterStep}
-use Rattle.linking.specs.FollowLaws.{master-step-keeps}
 use Rattle.calls.specs.Call.{Call, Outcome, oneOf, adds}
-use Rattle.calls.specs.Scene.{Scene, setNamed, pathNamed, sceneUnder}
+use Rattle.calls.specs.Scene.{Scene, sceneUnder}
 use Rattle.calls.specs.Ladder.{parameterTests, foundTests, otherMasterTests, finalTests}
 use Rattle.calls.specs.LadderLaws.{Passes}
 use Rattle.calls.specs.Reply.{spotOf, referenceBy, referenceAfter, storesBy, storesOf, baseAfter}
 use Rattle.calls.specs.Outcome.{done, outcome}
 use Rattle.calls.specs.Theorems.{refused-changes-nothing}
-use Rattle.lists.specs.Plain.{Lists, before, behind, atEnd, stepBy, step}
-use Rattle.lists.specs.CallTests.{add-master-tests, del-master-tests, write-master-tests, del-tests, write-tests, add-tests}
-use Rattle.lists.specs.Outcomes.{done-is, done-rungs}
+use Rattle.keeping.specs.Tests.{AddTests}
+use Rattle.keeping.specs.FreshLaws.{format-represents}
+use Rattle.housing.specs.MasterStep.{MasterStep}
+use Rattle.housing.specs.MasterSteps.{add-master-step, del-master-step, write-master-step}
+use Rattle.linking.specs.FollowLaws.{master-step-keeps}
+use Rattle.lists.specs.Plain.{Lists, before, behind, setOf, entryIn, pathIn, atEnd, stepBy, step}
 use Rattle.lists.specs.Shown.{Ready}
 use Rattle.lists.specs.ShownLaws.{shown-append, before-shown, behind-shown}
-use Rattle.housing.specs.MasterSteps.{add-master-step, del-master-step, write-master-step}
+use Rattle.lists.specs.Outcomes.{done-is, done-rungs}
+use Rattle.lists.specs.CallTests.{add-master-tests, del-master-tests, write-master-tests, del-tests, write-tests, add-tests}
 use Rattle.lists.specs.Turns.{AllRows, Turned, nothing-turned, same-turned, add-turned, del-turned, write-turned}
 
 -- a call is done or not
@@ -56,13 +56,13 @@ module _ (c : Call) (rows : AllRows) (g : Ready (c .schema) (c .base) rows) wher
   o = operationOf (c .operation)
 
   abbrev n : ℕ
-  n = setNamed t (c .name)
+  n = setOf c
 
   abbrev e : Entry
-  e = entryOf t n
+  e = entryIn c
 
   abbrev j : ℕ
-  j = pathNamed t e (c .path)
+  j = pathIn c
 
   -- ---- calls on masters, and FORMT
 

@@ -2,7 +2,6 @@
 -- reference is at most R. Its answer is the next live record above the reference, or END.
 use Prim.Native.Nat.{ℕ, _+_, _*_, _-_, _≤_, _<_}
 use mathlib.Core.Path.{_≡_, refl}
-use mathlib.Core.Logic.{_≢_}
 use mathlib.Core.Bool.{true}
 use mathlib.Core.List.{List}
 use native.Mathlib.Omega.{arith}
@@ -11,23 +10,22 @@ use borrow.Author.Tests.{eq-eqb, ne-eqb, le-leb, lt-ltb}
 use Rattle.octets.specs.Octets.{sameBytes}
 use Rattle.octets.specs.Text.{text}
 use Rattle.octets.specs.Below.{lowestFrom}
-use Rattle.terms.specs.declared.Status.the-variants.{Done}
 use Rattle.terms.specs.declared.Operation.the-variants.{Rdnxt}
 use Rattle.terms.specs.Operation.{operationOf}
 use Rattle.schema.specs.declared.Entry.{Entry}
 use Rattle.schema.specs.Decode.{setCount, schemaOf}
 use Rattle.schema.specs.Layout.{keepsRules}
 use Rattle.records.specs.Records.{isLive}
-use Rattle.records.specs.Areas.{areaLength, areaOf}
+use Rattle.records.specs.Areas.{areaLength}
 use Rattle.plans.specs.Plan.{blocksSealed}
-use Rattle.calls.specs.Call.{Call, Outcome}
+use Rattle.calls.specs.Call.{Call}
 use Rattle.calls.specs.Scene.{Scene, sceneUnder, sceneOf}
-use Rattle.calls.specs.Reply.{orNone, orEnd, given, referenceAfter, areaAfter, storesOf}
+use Rattle.calls.specs.Reply.{orNone, given, referenceAfter, areaAfter, storesOf}
 use Rattle.calls.specs.Ladder.{wrongKind, generalTests, parameterTests, foundTests, finalTests, ladder}
 use Rattle.calls.specs.LadderLaws.{Passes, others-pass}
 use Rattle.calls.specs.Outcome.{done, outcome}
 use Rattle.lists.specs.Plain.{setOf, entryIn}
-use Rattle.lists.specs.Outcomes.{climbed, outcome-done}
+use Rattle.lists.specs.Outcomes.{climbed, outcome-done, Gives}
 
 pub sweeping : operationOf (text "RDNXT") ≡ Rdnxt
 unfolding operationOf sameBytes
@@ -39,12 +37,6 @@ ahead b e r = lowestFrom (isLive b e) (e .records - r) (r + 1)
 
 abbrev pub nextLive : List ℕ → Entry → ℕ → ℕ
 nextLive b e r = orNone e (ahead b e r)
-
--- a call's answer gives the record q of set e; 0: it says END
-pub record Gives (b : List ℕ) (e : Entry) (o : Outcome) (q : ℕ) : Type 0 where
-  pub status : o .status ≡ Done
-  pub reference : o .reference ≡ orEnd q
-  pub area : q ≢ 0 → o .area ≡ areaOf b e q
 
 -- ---- no test that RDNXT does not have refuses it
 

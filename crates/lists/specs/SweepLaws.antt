@@ -1,4 +1,4 @@
--- The sweep of a data base that stands for rows: RDNXT from 0 on gives every live record of the set once, in ascending order, and then END;
+-- The sweep of a data base that stands for rows: RDNXT from 0 on gives every live record of the set once, in ascending order, and then END.;
 -- those that have a key on a path are the records of that row.
 use Prim.Native.Nat.{ℕ, zero, suc, _+_, _*_, _-_, _≤_, _<_}
 use mathlib.Core.Path.{_≡_, refl, sym, _∙_}
@@ -17,21 +17,23 @@ use Rattle.schema.specs.Place.{InSet}
 use Rattle.schema.specs.Guarantee.{IsPathOf}
 use Rattle.schema.specs.GuaranteeLaws.{lies}
 use Rattle.records.specs.Records.{isLive, keyOn}
-use Rattle.records.specs.Areas.{isMaster, areaKeyOn, areaOf}
+use Rattle.records.specs.Areas.{areaKeyOn, areaOf}
+use Rattle.records.specs.KindLaws.{is-variable}
 use Rattle.records.specs.RecordLaws.{whole-inside}
 use Rattle.chains.specs.Members.{all-in}
 use Rattle.sound.specs.Sound.{recordsWith}
 use Rattle.sound.specs.ListLaws.{recordsWith-in, in-recordsWith, nodup-recordsWith}
-use Rattle.keeping.specs.Rows.{World, Mine, PathRows}
 use Rattle.calls.specs.Call.{Outcome}
 use Rattle.calls.specs.Outcome.{outcome}
-use Rattle.lists.specs.Readings.{Reads, Place, setAt, entryAt, pathAt, IsPlace, rdnxt, ofKey, SameOnce}
-use Rattle.lists.specs.Shown.{shown, Ready}
+use Rattle.keeping.specs.Rows.{World, Mine, PathRows}
 use Rattle.linking.specs.RowFacts.{row-nodup}
-use Rattle.lists.specs.AreaKeys.{area-key-of}
+use Rattle.lists.specs.Readings.{Reads, Place, setAt, entryAt, pathAt, IsPlace, rdnxt, ofKey, SameOnce}
 use Rattle.lists.specs.PlaceLaws.{place-path}
+use Rattle.lists.specs.Shown.{shown, Ready}
+use Rattle.lists.specs.Outcomes.{Gives}
+use Rattle.lists.specs.AreaKeys.{area-key-of}
 use Rattle.lists.specs.PointLaws.{same-once}
-use Rattle.lists.specs.SweepCall.{sweeping, ahead, nextLive, Gives, sweep-gives}
+use Rattle.lists.specs.SweepCall.{sweeping, ahead, nextLive, sweep-gives}
 
 -- the live records of a set, in ascending order
 abbrev pub liveRecords : List ℕ → Entry → List ℕ
@@ -67,7 +69,7 @@ from-first f (suc n) = let z : n + 1 ≡ 1 + n = omega arith in rw (from-first f
 -- ---- a sweep
 
 module _ (b : List ℕ) (e : Entry) (ask : ℕ → Outcome) (many : e .records ≤ 65535) (gives : (r : ℕ) → r ≤ e .records → Gives b e (ask r) (nextLive b e r)) where
-  -- an answer past the last record is END; one within is the record
+  -- an answer past the last record is END.; one within is the record
   ends : (r : ℕ) → r ≤ e .records → e .records < ahead b e r → Reads ask r []
   ends r l h = let g = gives r l in (g .status, g .reference ∙ (rw (lt-ltb _ _ h) refl))
 
@@ -105,8 +107,7 @@ module _ (t : Schema) (b : List ℕ) (i j : ℕ) (rows : List ℕ → List ℕ) 
     (path : PathRows t b i j rows) where
   area-key : (r : ℕ) → InSet (entryOf t i) r → areaKeyOn (entryOf t i) (areaOf b (entryOf t i) r) j ≡ keyOn b (entryOf t i) r (pathOf (entryOf t i) j)
   area-key r l =
-      let v : isMaster (entryOf t i) ≡ false = ne-eqb (entryOf t i .kind) 1 (λ k. omega (arith, world .ok .variable i (is .0) (is .1) .kind)) in
-      area-key-of b (entryOf t i) r j (world .fields i (is .1)) v (whole-inside r (lies i (world .ok) (is .1) sized) l) (is .2)
+      area-key-of b (entryOf t i) r j (world .fields i (is .1)) (is-variable t (world .ok) i (is .0) (is .1)) (whole-inside r (lies i (world .ok) (is .1) sized) l) (is .2)
 
   row-points : SameOnce (ofKey (entryOf t i) j key (shown b (entryOf t i) (liveRecords b (entryOf t i)))) (shown b (entryOf t i) (rows key))
   row-points =
@@ -118,7 +119,7 @@ module _ (t : Schema) (b : List ℕ) (i j : ℕ) (rows : List ℕ → List ℕ) 
       (in-recordsWith e (isLive b e) r (d .0 .0) (d .0 .1), area-key r (d .0 .0) ∙ d .1))
 
 module _ (s b : List ℕ) (rows : ℕ → ℕ → List ℕ → List ℕ) (g : Ready s b rows) (w : Place) (p : IsPlace (schemaOf s) w) (key : List ℕ) where
-  -- RDNXT from 0 on gives every live record of the set in ascending order, then END
+  -- RDNXT from 0 on gives every live record of the set in ascending order, then END.
   pub sweep-reads : Reads (rdnxt outcome s b w) 0 (shown b (entryAt (schemaOf s) w) (liveRecords b (entryAt (schemaOf s) w)))
   sweep-reads =
       swept b (entryAt (schemaOf s) w) (rdnxt outcome s b w) (g .world .ok .set (setAt (schemaOf s) w) (p .set) .many)

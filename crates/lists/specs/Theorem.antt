@@ -19,31 +19,31 @@ use Rattle.schema.specs.Layout.{keepsRules}
 use Rattle.schema.specs.Decode.{entryOf, schemaOf}
 use Rattle.schema.specs.GuaranteeLaws.{guaranteed}
 use Rattle.areas.specs.AreaLaws.{fields-of}
+use Rattle.plans.specs.Plan.{blocksSealed, formatted}
 use Rattle.sound.specs.Sound.{sound}
-use Rattle.keeping.specs.Rows.{World}
-use Rattle.keeping.specs.FreshLaws.{format-represents}
-use Rattle.linking.specs.Standing.{rowsIn, sound-represents, represents-sound}
 use Rattle.calls.specs.Call.{Call, Outcome, callOf, oneOf}
 use Rattle.calls.specs.Scene.{sceneOf, sceneUnder}
 use Rattle.calls.specs.LadderLaws.{others-pass}
 use Rattle.calls.specs.Outcome.{done, outcome, IsOutcome}
 use Rattle.calls.specs.Theorems.{has-outcome, one-outcome}
 use Rattle.calls.specs.Reply.{storesOf, baseAfter}
-use Rattle.plans.specs.Plan.{blocksSealed, formatted}
-use Rattle.lists.specs.Calm.{asked}
-use Rattle.lists.specs.Outcomes.{Rungs, climbed, outcome-done, done-is, done-rungs}
+use Rattle.keeping.specs.Rows.{World}
+use Rattle.keeping.specs.FreshLaws.{format-represents}
+use Rattle.linking.specs.Standing.{rowsIn, sound-represents, represents-sound}
 use Rattle.lists.specs.Plain.{Lists}
 use Rattle.lists.specs.Readings.{Request, under, run, plain, NoDamage, Place, setAt, entryAt, pathAt, IsPlace, Exists, readv, link, noSet, noPath}
 use Rattle.lists.specs.Condition.{SignsOn, Formatted, Start, StartLists, Kept, Condition3}
-use Rattle.lists.specs.Shown.{shown, Ready}
 use Rattle.lists.specs.ReadingLaws.{step-unseen, reads-one}
 use Rattle.lists.specs.PlaceLaws.{place-path}
-use Rattle.lists.specs.ExistsLaws.{row-or-exists}
-use Rattle.lists.specs.ReadLaws.{reads-forward, reads-backward}
-use Rattle.lists.specs.SweepLaws.{liveRecords, sweep-reads, sweep-same}
+use Rattle.lists.specs.Shown.{shown, Ready}
+use Rattle.lists.specs.Calm.{asked}
+use Rattle.lists.specs.Outcomes.{Rungs, climbed, outcome-done, done-is, done-rungs}
 use Rattle.lists.specs.Quiet.{never-damaged}
 use Rattle.lists.specs.Turns.{AllRows, Shows}
 use Rattle.lists.specs.Steps.{status?, call-turned}
+use Rattle.lists.specs.ExistsLaws.{row-or-exists}
+use Rattle.lists.specs.ReadLaws.{reads-forward, reads-backward}
+use Rattle.lists.specs.SweepLaws.{liveRecords, sweep-reads, sweep-same}
 
 -- ---- the reverse of a list of points
 
@@ -124,6 +124,29 @@ module _ (c : Call) (rows : AllRows) (g : Ready (c .schema) (c .base) rows) (q :
   signs : outcome c .status ≡ Done
   unfolding done
   signs = rw (outcome-done c (climbed (sceneOf c) c sign-rungs)) refl
+
+-- ---- every schema that keeps the rules has a start: FORMT formats
+
+module _ (c : Call) (rules : keepsRules (c .schema) ≡ true) (sized : length (c .base) ≡ 512 * schemaOf (c .schema) .blocks) (q : operationOf (c .operation) ≡ Formt) where
+  format-rungs : Rungs (sceneOf c) c
+  unfolding sceneUnder storesOf blocksSealed
+  format-rungs =
+      let z : length (c .base) ≡ schemaOf (c .schema) .blocks * 512 = omega arith in
+      record {
+        general = rw (q, rules, eq-eqb _ _ z) (refl, (refl, (refl, tt)));
+        parameters = rw q (refl, (refl, (refl, (refl, (refl, (refl, (refl, (refl, (refl, (refl, (refl, (refl, tt))))))))))));
+        found = rw q (refl, (refl, (refl, (refl, (refl, (refl, tt))))));
+        others = others-pass (sceneOf c) c (rw q refl) (rw q refl);
+        final = rw q (refl, (refl, (refl, (refl, (refl, (refl, (refl, (refl, (refl, (refl, (refl, tt)))))))))));
+      }
+
+  formats : outcome c .status ≡ Done
+  unfolding done
+  formats = rw (outcome-done c (climbed (sceneOf c) c format-rungs)) refl
+
+pub every-schema : (s q : List ℕ) → keepsRules s ≡ true → length q ≡ 512 * schemaOf s .blocks
+    → Formatted outcome s (outcome (callOf (text "FORMT") noSet 0 noPath [] [] s q) .base)
+every-schema s q rules sized = (q, formats (callOf (text "FORMT") noSet 0 noPath [] [] s q) rules sized formatting, refl)
 
 -- ---- readings show the rows
 

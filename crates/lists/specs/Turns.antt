@@ -22,17 +22,16 @@ use Rattle.chains.specs.Points.{addStores, delStores, spotOn}
 use Rattle.chains.specs.Members.{All, all-map}
 use Rattle.chains.specs.declared.Spot.{Spot}
 use Rattle.chains.specs.declared.Spot.the-variants.{Last}
+use Rattle.calls.specs.Call.{Call}
 use Rattle.keeping.specs.Rows.{Mine, Represents, inserted, without}
 use Rattle.keeping.specs.Tests.{AddTests, DelTests, WriteTests}
 use Rattle.linking.specs.RowFacts.{row-in-set}
 use Rattle.linking.specs.AddSteps.{rowsAdded, add-point-step, add-area, add-keeps, add-new}
 use Rattle.linking.specs.DelSteps.{del-point-step, del-keeps}
 use Rattle.linking.specs.WriteSteps.{write-point-step, write-keeps, write-area}
-use Rattle.calls.specs.Call.{Call}
-use Rattle.calls.specs.Scene.{Scene, setNamed, pathNamed, sceneUnder}
-use Rattle.lists.specs.Plain.{Point, Lists, takenOut, rewritten, added, inSetOf}
-use Rattle.lists.specs.Shown.{shown, Ready}
-use Rattle.lists.specs.ShownLaws.{pointOf, shown-same, shown-append, taken-shown, rewritten-shown}
+use Rattle.lists.specs.Plain.{Point, Lists, takenOut, rewritten, setOf, entryIn, pathIn, added, inSetOf}
+use Rattle.lists.specs.Shown.{pointOf, shown, Ready}
+use Rattle.lists.specs.ShownLaws.{shown-same, shown-append, taken-shown, rewritten-shown}
 
 -- rows, for each set, path and key
 abbrev pub AllRows : Type 0
@@ -54,12 +53,16 @@ module _ (t : Schema) (b : List ℕ) (rows : AllRows) (g : Represents t b rows) 
   pub nothing-turned : Turned t b b rows (λ l. l)
   nothing-turned = record { now = rows; stands = g; shows = λ l i j p h. h }
 
+  -- the records of a row are records of its set
+  inside : (i j : ℕ) → IsPathOf t i j → (key : List ℕ) → All (InSet (entryOf t i)) (rows i j key)
+  inside i j p key = row-in-set t b i j (rows i j) key (g .paths i j p)
+
   -- the areas of the records of a row
   row-areas : (c : List ℕ) → ((i r : ℕ) → t .masters ≤ i → i < setCount t → InSet (entryOf t i) r → areaOf c (entryOf t i) r ≡ areaOf b (entryOf t i) r)
       → (i j : ℕ) → IsPathOf t i j → (key : List ℕ) → shown b (entryOf t i) (rows i j key) ≡ shown c (entryOf t i) (rows i j key)
   row-areas c h i j p key =
       shown-same b c (entryOf t i) (rows i j key)
-      (all-map (InSet (entryOf t i)) _ (λ r s. h i r (p .0) (p .1) s) (rows i j key) (row-in-set t b i j (rows i j) key (g .paths i j p)))
+      (all-map (InSet (entryOf t i)) _ (λ r s. h i r (p .0) (p .1) s) (rows i j key) (inside i j p key))
 
   pub same-turned : (c : List ℕ) → Represents t c rows → ((i r : ℕ) → t .masters ≤ i → i < setCount t → InSet (entryOf t i) r → areaOf c (entryOf t i) r ≡ areaOf b (entryOf t i) r)
       → Turned t b c rows (λ l. l)
@@ -93,17 +96,14 @@ module _ (c : Call) (rows : AllRows) (g : Ready (c .schema) (c .base) rows) wher
   abbrev b : List ℕ
   b = c .base
 
-  abbrev x : Scene
-  x = sceneUnder t c
-
   abbrev n : ℕ
-  n = setNamed t (c .name)
+  n = setOf c
 
   abbrev e : Entry
-  e = entryOf t n
+  e = entryIn c
 
   abbrev j : ℕ
-  j = pathNamed t e (c .path)
+  j = pathIn c
 
   module _ (spot : Spot) (ok : AddTests t b n j (c .area) spot) where
     abbrev r : ℕ
@@ -150,19 +150,16 @@ module _ (c : Call) (rows : AllRows) (g : Ready (c .schema) (c .base) rows) wher
       shows = λ l i v p h key. by l i v p key (eqb i n) refl (h key);
     }
       where
-        inside : (i v : ℕ) → IsPathOf t i v → (key : List ℕ) → All (InSet (entryOf t i)) (rows i v key)
-        inside i v p key = row-in-set t b i v (rows i v) key (g .stands .paths i v p)
-
         by : (l : Lists) (i v : ℕ) → IsPathOf t i v → (key : List ℕ) (s : Bool) → eqb i n ≡ s → l i v key ≡ shown b (entryOf t i) (rows i v key)
             → cond s (takenOut (c .reference) (l i v key)) (l i v key) ≡ shown deleted (entryOf t i) (cond s (without (c .reference) (rows i v key)) (rows i v key))
         by l i v p key true q h =
             rw h (taken-shown b (entryOf t i) (c .reference) (rows i v key))
             ∙ shown-same b deleted (entryOf t i) (without (c .reference) (rows i v key))
             (all-map _ _ (λ d m. left-areas i d (p .0) (p .1) (m .0) (λ z. m .1 (z .1))) (without (c .reference) (rows i v key))
-            (without-all (InSet (entryOf t i)) (c .reference) (rows i v key) (inside i v p key)))
+            (without-all (InSet (entryOf t i)) (c .reference) (rows i v key) (inside t b rows (g .stands) i v p key)))
         by l i v p key false q h =
             h ∙ shown-same b deleted (entryOf t i) (rows i v key)
-            (all-map (InSet (entryOf t i)) _ (λ d m. left-areas i d (p .0) (p .1) m (λ z. eqb-false i n q (z .0))) (rows i v key) (inside i v p key))
+            (all-map (InSet (entryOf t i)) _ (λ d m. left-areas i d (p .0) (p .1) m (λ z. eqb-false i n q (z .0))) (rows i v key) (inside t b rows (g .stands) i v p key))
 
   module _ (ok : WriteTests t b n (c .reference) (c .area)) where
     abbrev written : List ℕ
@@ -178,16 +175,13 @@ module _ (c : Call) (rows : AllRows) (g : Ready (c .schema) (c .base) rows) wher
       shows = λ l i v p h key. by l i v p key (eqb i n) refl (h key);
     }
       where
-        inside : (i v : ℕ) → IsPathOf t i v → (key : List ℕ) → All (InSet (entryOf t i)) (rows i v key)
-        inside i v p key = row-in-set t b i v (rows i v) key (g .stands .paths i v p)
-
         by : (l : Lists) (i v : ℕ) → IsPathOf t i v → (key : List ℕ) (s : Bool) → eqb i n ≡ s → l i v key ≡ shown b (entryOf t i) (rows i v key)
             → cond s (rewritten (c .reference) (c .area) (l i v key)) (l i v key) ≡ shown written (entryOf t i) (rows i v key)
         by l i v p key true q h =
             let z : i ≡ n = eqb-true i n q in
             rw h (rewritten-shown b written (entryOf t i) (c .reference) (c .area) (rows i v key)
             (rw z (write-area t (g .world) b rows (g .stands) n (c .reference) (c .area) ok))
-            (all-map (InSet (entryOf t i)) _ (λ d m s. kept-areas i d (p .0) (p .1) m (λ z. s (z .1))) (rows i v key) (inside i v p key)))
+            (all-map (InSet (entryOf t i)) _ (λ d m s. kept-areas i d (p .0) (p .1) m (λ z. s (z .1))) (rows i v key) (inside t b rows (g .stands) i v p key)))
         by l i v p key false q h =
             h ∙ shown-same b written (entryOf t i) (rows i v key)
-            (all-map (InSet (entryOf t i)) _ (λ d m. kept-areas i d (p .0) (p .1) m (λ z. eqb-false i n q (z .0))) (rows i v key) (inside i v p key))
+            (all-map (InSet (entryOf t i)) _ (λ d m. kept-areas i d (p .0) (p .1) m (λ z. eqb-false i n q (z .0))) (rows i v key) (inside t b rows (g .stands) i v p key))

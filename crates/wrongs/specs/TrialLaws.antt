@@ -1,6 +1,5 @@
 -- The trials hold, computed: every definition on the way is opened once, and each equation is `refl`. Besides, what the refutations of
 -- condition 3 ask of the trials: FORMT is done, the path is one of the schema, the bottle is there, and the plain list has these points.
-use Prim.Native.Nat.{ℕ}
 use mathlib.Core.Path.{_≡_, refl}
 use mathlib.Core.Bool.{xor}
 use mathlib.Core.List.{List, [], _∷_}
@@ -21,48 +20,46 @@ use Rattle.masters.specs.Root.{addMasterFull, addMasterDamaged, addMasterStores
 use Rattle.chains.specs.Chains.{readDamaged}
 use Rattle.chains.specs.Points.{neighboursAt, addDamaged, addStores, delDamaged, delStores}
 use Rattle.sound.specs.Sound.{isIn, within, checksTrue, recordClean, leftoverClean, setClean, follow, isChain, lastOf, keysDistinct, mastersOfHome, homeList, homeSound, masterSetSound, pathList, pathSound, hasMaster, variablePathSound, variableSetSound, setSound, sound}
-use Rattle.calls.specs.Ladder.{refusal, wrongKind, blankAreaKey, otherAreaKey, ladder}
-use Rattle.calls.specs.Outcome.{done, outcomeIn, outcome}
-use Rattle.calls.specs.Reply.{given, referenceAfter, areaAfter, storesOf, baseAfter}
 use Rattle.calls.specs.Scene.{setNamed, pathNamed, sceneUnder}
+use Rattle.calls.specs.Ladder.{refusal, wrongKind, blankAreaKey, otherAreaKey, ladder}
+use Rattle.calls.specs.Reply.{given, referenceAfter, areaAfter, storesOf, baseAfter}
+use Rattle.calls.specs.Outcome.{done, outcomeIn, outcome}
 use Rattle.lists.specs.Plain.{Point, before, step}
 use Rattle.lists.specs.Readings.{under, run, plain, Place, setAt, pathAt, IsPlace, Exists}
 use Rattle.cases.specs.Small.{twoSets}
-use Rattle.wrongs.specs.Twin.{twin, formt, bottle, path1, path2}
-use Rattle.wrongs.specs.Wrong.{refusesAll, alwaysDone, storesNothing, linksFirst, everyOther, forgetsNext, formatLeaves, insertsAfter}
-use Rattle.wrongs.specs.Trials.{Trial, answers, startOf, endOf, Holds, refusing, doing, leavingAll, linking, removing, inserting, formatting}
+use Rattle.wrongs.specs.Wrong.{refusesAll, alwaysDone, storesNothing, linksFirst, everyOther, forgetsNext, formatLeaves, insertsAfter, readsForward, sweepsNothing}
+use Rattle.wrongs.specs.Twin.{twin, formt, bottle, point, path1, path2}
+use Rattle.wrongs.specs.Trials.{Trial, answers, startOf, endOf, Holds, refusing, doing, leavingAll, linking, removing, inserting, turning, sweeping, formatting}
 
 -- FORMT is done
 abbrev pub Formats : Trial → Type 0
 Formats x = x .store (under twin (x .base) formt) .status ≡ Done
 
-abbrev pub numbers : List Point → List ℕ
-numbers [] = []
-numbers (x ∷ xs) = x .number ∷ numbers xs
-
 -- the plain list of the bottle's points on a path, after the trial's calls
-abbrev pub plainOn : Trial → Place → List Point
+abbrev plainOn : Trial → Place → List Point
 plainOn x w = plain (x .store) twin (startOf (x .store) x) (x .calls) (λ i j key. []) (setAt (schemaOf twin) w) (pathAt (schemaOf twin) w) bottle
 
--- what a refutation by reading asks: the plain list has these numbers
-pub record Readable (x : Trial) (w : Place) (ns : List ℕ) : Type 0 where
+-- what a refutation by reading asks: the plain list is xs
+pub record Readable (x : Trial) (w : Place) (xs : List Point) : Type 0 where
   pub formats : Formats x
   pub place : IsPlace (schemaOf twin) w
   pub exists : Exists (x .store) twin (endOf (x .store) x) w bottle
-  pub numbered : numbers (plainOn x w) ≡ ns
+  pub listed : plainOn x w ≡ xs
 
 -- what is computed, store by store
 pub record Computed : Type 0 where
   pub refuses : Holds refusing
   pub does : Holds doing
   pub leaves : Holds leavingAll × Formats leavingAll
-  pub links : Holds linking × Readable linking path2 (1 ∷ [])
+  pub links : Holds linking × Readable linking path2 (point 1 ∷ [])
   pub removes : Holds removing × Formats removing
-  pub inserts : Holds inserting × Readable inserting path1 (2 ∷ 1 ∷ [])
+  pub inserts : Holds inserting × Readable inserting path1 (point 2 ∷ point 1 ∷ [])
+  pub turns : Holds turning × Readable turning path1 (point 1 ∷ point 2 ∷ [])
+  pub sweeps : Holds sweeping × Readable sweeping path1 (point 1 ∷ [])
   pub formats : Holds formatting × Formats formatting
 
 pub computed : Computed
-unfolding xor halfAt wordAt splice setWord every sameBytes sumOnto allBelow sumBelow countBelow lowestFrom concatBelow operationOf checkOf isSealed seal blockRule headRule nameRule masterRule variableRule countRule pathRule slotRule setRule entryRule restRule namesRule clash lettersRule formRule linksBefore keyPlace linkPlace bodyPlace firstBlock sizeRule keepsRules pathFrom entryFrom schemaOf blockOf placeOf areaKeyPlace newMaster newPaths newVariable blocksSealed storeAll sealAll committed sealBelow formatted seek find lowestFree addMasterFull addMasterDamaged addMasterStores readDamaged neighboursAt addDamaged addStores delDamaged delStores isIn within checksTrue recordClean leftoverClean setClean follow isChain lastOf keysDistinct mastersOfHome homeList homeSound masterSetSound pathList pathSound hasMaster variablePathSound variableSetSound setSound sound refusal wrongKind blankAreaKey otherAreaKey ladder done outcomeIn outcome given referenceAfter areaAfter storesOf baseAfter setNamed pathNamed sceneUnder before step run plain twoSets twin refusesAll alwaysDone storesNothing linksFirst everyOther forgetsNext formatLeaves insertsAfter answers
+unfolding xor halfAt wordAt splice setWord every sameBytes sumOnto allBelow sumBelow countBelow lowestFrom concatBelow operationOf checkOf isSealed seal blockRule headRule nameRule masterRule variableRule countRule pathRule slotRule setRule entryRule restRule namesRule clash lettersRule formRule linksBefore keyPlace linkPlace bodyPlace firstBlock sizeRule keepsRules pathFrom entryFrom schemaOf blockOf placeOf areaKeyPlace newMaster newPaths newVariable blocksSealed storeAll sealAll committed sealBelow formatted seek find lowestFree addMasterFull addMasterDamaged addMasterStores readDamaged neighboursAt addDamaged addStores delDamaged delStores isIn within checksTrue recordClean leftoverClean setClean follow isChain lastOf keysDistinct mastersOfHome homeList homeSound masterSetSound pathList pathSound hasMaster variablePathSound variableSetSound setSound sound refusal wrongKind blankAreaKey otherAreaKey ladder done outcomeIn outcome given referenceAfter areaAfter storesOf baseAfter setNamed pathNamed sceneUnder before step run plain twoSets twin refusesAll alwaysDone storesNothing linksFirst everyOther forgetsNext formatLeaves insertsAfter readsForward sweepsNothing answers
 computed =
     record {
       refuses = (refl, refl, refl);
@@ -74,7 +71,7 @@ computed =
           formats = refl;
           place = record { set = lit< tt; path = lit< tt; masters = refl; point-area = refl; master-area = refl };
           exists = refl;
-          numbered = refl;
+          listed = refl;
         },
       );
       removes = ((refl, refl, refl), refl);
@@ -84,7 +81,25 @@ computed =
           formats = refl;
           place = record { set = lit< tt; path = lit< tt; masters = refl; point-area = refl; master-area = refl };
           exists = refl;
-          numbered = refl;
+          listed = refl;
+        },
+      );
+      turns = (
+        (refl, refl, refl),
+        record {
+          formats = refl;
+          place = record { set = lit< tt; path = lit< tt; masters = refl; point-area = refl; master-area = refl };
+          exists = refl;
+          listed = refl;
+        },
+      );
+      sweeps = (
+        (refl, refl, refl),
+        record {
+          formats = refl;
+          place = record { set = lit< tt; path = lit< tt; masters = refl; point-area = refl; master-area = refl };
+          exists = refl;
+          listed = refl;
         },
       );
       formats = ((refl, refl, refl), refl);

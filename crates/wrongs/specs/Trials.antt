@@ -3,7 +3,7 @@
 use Prim.Native.Nat.{ℕ}
 use mathlib.Core.Path.{_≡_}
 use mathlib.Core.Bool.{false}
-use mathlib.Core.List.{List, [], _∷_}
+use mathlib.Core.List.{List, [], _∷_, _++_}
 use lib.ListN.{replicate}
 use Rattle.octets.specs.Octets.{sameBytes, zeros}
 use Rattle.octets.specs.Text.{text}
@@ -11,9 +11,9 @@ use Rattle.terms.specs.Terms.{endRef, linkRef}
 use Rattle.terms.specs.Status.{statusNumber}
 use Rattle.calls.specs.Call.{Call, Outcome}
 use Rattle.calls.specs.Outcome.{outcome}
-use Rattle.lists.specs.Readings.{Request, Place, under, run}
-use Rattle.wrongs.specs.Wrong.{refusesAll, alwaysDone, storesNothing, linksFirst, forgetsNext, formatLeaves, insertsAfter}
-use Rattle.wrongs.specs.Twin.{twin, formt, signOn, addBottle, addPoint, removePoint, path1, path2, readFrom, linkAt}
+use Rattle.lists.specs.Readings.{Request, under, run}
+use Rattle.wrongs.specs.Wrong.{refusesAll, alwaysDone, storesNothing, linksFirst, forgetsNext, formatLeaves, insertsAfter, readsForward, sweepsNothing}
+use Rattle.wrongs.specs.Twin.{twin, formt, signOn, addBottle, addPoint, removePoint, path1, path2, readFrom, readBack, linkAt, sweepFrom}
 
 -- FORMT is given `base`; the calls follow, then the questions
 pub record Trial : Type 0 where
@@ -49,10 +49,10 @@ Holds x = (told (x .store) x ≡ x .wrong) × (told outcome x ≡ x .right) × (
 abbrev pub signing : (Call → Outcome) → List ℕ → List Request → Trial
 signing store base calls = record { store = store; base = base; calls = calls; questions = signOn ∷ []; wrong = 16 ∷ 0 ∷ []; right = 0 ∷ 0 ∷ [] }
 
--- READV of a path: with LKxx, then with the points of `more`. With LKxx the wrong store gives a, the right one n.
-abbrev pub reading : (Call → Outcome) → List Request → Place → List Request → ℕ → List ℕ → ℕ → List ℕ → Trial
-reading store calls w more a bs n ms =
-    record { store = store; base = zeros 1024; calls = calls; questions = readFrom w (linkAt w) ∷ more; wrong = 0 ∷ a ∷ bs; right = 0 ∷ n ∷ ms }
+-- reads after the calls
+abbrev reading : (Call → Outcome) → List Request → List Request → List ℕ → List ℕ → Trial
+reading store calls questions wrong right =
+    record { store = store; base = zeros 1024; calls = calls; questions = questions; wrong = wrong; right = right }
 
 -- ---- the trials
 
@@ -62,25 +62,41 @@ refusing = record { store = refusesAll; base = zeros 1024; calls = []; questions
 
 -- a bottle with no points reads END.; the wrong store gives LKQT back
 abbrev pub doing : Trial
-doing = reading alwaysDone (addBottle ∷ []) path2 [] (linkRef 81 84) [] endRef []
+doing = reading alwaysDone (addBottle ∷ []) (readFrom path2 (linkAt path2) ∷ []) (0 ∷ linkRef 81 84 ∷ []) (0 ∷ endRef ∷ [])
 
 -- FORMT is given zeros, where the second block's check is false
 abbrev pub leavingAll : Trial
 leavingAll = signing storesNothing (zeros 1024) []
 
--- a bottle with one point: the second path reads 1 and END., in the wrong store END. at once
+-- a bottle with one point
+abbrev onePoint : List Request
+onePoint = addBottle ∷ addPoint (text "ADDVC") 0 ∷ []
+
+-- the second path reads 1 and END., forward and backward; in the wrong store END. at once
 abbrev pub linking : Trial
-linking = reading linksFirst (addBottle ∷ addPoint (text "ADDVC") 0 ∷ []) path2 (readFrom path2 1 ∷ []) endRef (0 ∷ endRef ∷ []) 1 (0 ∷ endRef ∷ [])
+linking =
+    reading linksFirst onePoint (readFrom path2 (linkAt path2) ∷ readFrom path2 1 ∷ readBack path2 (linkAt path2) ∷ readBack path2 1 ∷ [])
+    (0 ∷ endRef ∷ 0 ∷ endRef ∷ 0 ∷ endRef ∷ 0 ∷ endRef ∷ []) (0 ∷ 1 ∷ 0 ∷ endRef ∷ 0 ∷ 1 ∷ 0 ∷ endRef ∷ [])
 
--- a point is added and removed
+-- the point is removed
 abbrev pub removing : Trial
-removing = signing forgetsNext (zeros 1024) (addBottle ∷ addPoint (text "ADDVC") 0 ∷ removePoint 1 ∷ [])
+removing = signing forgetsNext (zeros 1024) (onePoint ++ (removePoint 1 ∷ []))
 
--- a point, and a second one before it: the right store reads 2, 1 and END., the wrong one 1, 2 and END.
+-- a second point before it: the right store reads 2, 1 and END., the wrong one 1, 2 and END.
 abbrev pub inserting : Trial
 inserting =
-    reading insertsAfter (addBottle ∷ addPoint (text "ADDVC") 0 ∷ addPoint (text "ADDVB") 1 ∷ []) path1 (readFrom path1 1 ∷ readFrom path1 2 ∷ []) 1
-    (0 ∷ 2 ∷ 0 ∷ endRef ∷ []) 2 (0 ∷ endRef ∷ 0 ∷ 1 ∷ [])
+    reading insertsAfter (onePoint ++ (addPoint (text "ADDVB") 1 ∷ [])) (readFrom path1 (linkAt path1) ∷ readFrom path1 1 ∷ readFrom path1 2 ∷ [])
+    (0 ∷ 1 ∷ 0 ∷ 2 ∷ 0 ∷ endRef ∷ []) (0 ∷ 2 ∷ 0 ∷ endRef ∷ 0 ∷ 1 ∷ [])
+
+-- a second point after it: backward the right store reads 2, 1 and END., the wrong one 1, 2 and END.
+abbrev pub turning : Trial
+turning =
+    reading readsForward (onePoint ++ (addPoint (text "ADDVC") 0 ∷ [])) (readBack path1 (linkAt path1) ∷ readBack path1 1 ∷ readBack path1 2 ∷ [])
+    (0 ∷ 1 ∷ 0 ∷ 2 ∷ 0 ∷ endRef ∷ []) (0 ∷ 2 ∷ 0 ∷ endRef ∷ 0 ∷ 1 ∷ [])
+
+-- the sweep finds the point and comes to END.; in the wrong store END. at once
+abbrev pub sweeping : Trial
+sweeping = reading sweepsNothing onePoint (sweepFrom path1 0 ∷ sweepFrom path1 1 ∷ []) (0 ∷ endRef ∷ 0 ∷ endRef ∷ []) (0 ∷ 1 ∷ 0 ∷ endRef ∷ [])
 
 -- FORMT is given ones
 abbrev pub formatting : Trial

@@ -5,9 +5,9 @@ use mathlib.Core.List.{List, [], _∷_, _++_}
 use Rattle.octets.specs.Octets.{wordBytes, zeros}
 use Rattle.octets.specs.Text.{text}
 use Rattle.blocks.specs.Blocks.{seal}
-use Rattle.schema.specs.Decode.{pathOf, schemaOf}
-use Rattle.calls.specs.Reply.{linkOf}
-use Rattle.lists.specs.Readings.{Request, Place, entryAt, pathAt}
+use Rattle.schema.specs.Decode.{schemaOf}
+use Rattle.lists.specs.Plain.{Point}
+use Rattle.lists.specs.Readings.{Request, Place, link, noSet, noPath}
 use Rattle.cases.specs.Small.{twoSets, botl}
 
 -- D 4, R 3, paths BOTLLKPT and BOTLLKQT
@@ -23,22 +23,28 @@ bottle = text "B001"
 -- ---- the calls
 
 abbrev pub formt : Request
-formt = record { operation = text "FORMT"; name = []; reference = 0; path = []; key = []; area = [] }
+formt = record { operation = text "FORMT"; name = noSet; reference = 0; path = noPath; key = []; area = [] }
 
 abbrev pub signOn : Request
-signOn = record { operation = text "SINON"; name = []; reference = 0; path = []; key = []; area = [] }
+signOn = record { operation = text "SINON"; name = noSet; reference = 0; path = noPath; key = []; area = [] }
 
 abbrev pub addBottle : Request
-addBottle = record { operation = text "ADD-M"; name = text "BOTL"; reference = 0; path = []; key = bottle; area = bottle ++ text "NECK" }
+addBottle = record { operation = text "ADD-M"; name = text "BOTL"; reference = 0; path = noPath; key = bottle; area = bottle ++ text "NECK" }
 
 -- a call on the first path
 abbrev pointCall : List ℕ → ℕ → List ℕ → Request
 pointCall operation r area =
     record { operation = operation; name = text "PNTS"; reference = r; path = text "BOTLLKPT"; key = bottle; area = area }
 
--- an add of a point: ADDVC, ADDVB or ADDVA
+-- an add of a point: ADDVC, ADDVB or ADDVA; all points have the same bytes
+abbrev pointArea : List ℕ
+pointArea = bottle ++ (bottle ++ text "DATA")
+
 abbrev pub addPoint : List ℕ → ℕ → Request
-addPoint operation r = pointCall operation r (bottle ++ (bottle ++ text "DATA"))
+addPoint operation r = pointCall operation r pointArea
+
+abbrev pub point : ℕ → Point
+point n = record { number = n; area = pointArea }
 
 abbrev pub removePoint : ℕ → Request
 removePoint r = pointCall (text "DELVD") r []
@@ -46,7 +52,7 @@ removePoint r = pointCall (text "DELVD") r []
 -- ---- the readings
 
 -- where the points of a path are read
-abbrev pub onPath : List ℕ → Place
+abbrev onPath : List ℕ → Place
 onPath path = record { set = text "PNTS"; path = path; masters = text "BOTL"; point-area = zeros 12; master-area = zeros 8 }
 
 abbrev pub path1 : Place
@@ -55,9 +61,18 @@ path1 = onPath (text "BOTLLKPT")
 abbrev pub path2 : Place
 path2 = onPath (text "BOTLLKQT")
 
--- READV of the bottle's points from the reference r on, and the reference LKxx
+-- READV or READR of the bottle's points from the reference r on, the reference LKxx, and RDNXT
+abbrev readPoint : List ℕ → Place → ℕ → Request
+readPoint operation w r = record { operation = operation; name = w .set; reference = r; path = w .path; key = bottle; area = w .point-area }
+
 abbrev pub readFrom : Place → ℕ → Request
-readFrom w r = record { operation = text "READV"; name = w .set; reference = r; path = w .path; key = bottle; area = w .point-area }
+readFrom = readPoint (text "READV")
+
+abbrev pub readBack : Place → ℕ → Request
+readBack = readPoint (text "READR")
 
 abbrev pub linkAt : Place → ℕ
-linkAt w = linkOf (pathOf (entryAt (schemaOf twin) w) (pathAt (schemaOf twin) w))
+linkAt w = link (schemaOf twin) w
+
+abbrev pub sweepFrom : Place → ℕ → Request
+sweepFrom w r = record { operation = text "RDNXT"; name = w .set; reference = r; path = noPath; key = []; area = w .point-area }

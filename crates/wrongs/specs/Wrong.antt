@@ -7,10 +7,11 @@ use lib.Dec.{eqb}
 use lib.ListN.{take}
 use Rattle.octets.specs.Octets.{sameBytes}
 use Rattle.octets.specs.Text.{text}
+use Rattle.terms.specs.Terms.{endRef}
 use Rattle.terms.specs.declared.Status.the-variants.{Done, Func}
 use Rattle.terms.specs.Status.{statusNumber}
 use Rattle.terms.specs.declared.Operation.{Operation}
-use Rattle.terms.specs.declared.Operation.the-variants.{Formt, Delvd}
+use Rattle.terms.specs.declared.Operation.the-variants.{Formt, Rdnxt, Delvd}
 use Rattle.terms.specs.Operation.{operationOf}
 use Rattle.schema.specs.Decode.{entryOf, schemaOf}
 use Rattle.schema.specs.Place.{recordOf}
@@ -69,10 +70,22 @@ formatLeaves c =
     (storeRecord (entryOf (schemaOf (c .schema)) 0) 1 (recordOf (c .base) (entryOf (schemaOf (c .schema)) 0) 1) ∷ []))
     (outcome c .base))
 
--- ---- a store that does another call
+-- ---- stores that do another call
+
+-- the same call of this operation
+abbrev calling : Call → List ℕ → Outcome
+calling c operation = outcome (callOf operation (c .name) (c .reference) (c .path) (c .key) (c .area) (c .schema) (c .base))
 
 -- ADDVB does what ADDVA does
 unfoldable pub insertsAfter : Call → Outcome
-insertsAfter c =
-    outcome
-    (callOf (cond (sameBytes (c .operation) (text "ADDVB")) (text "ADDVA") (c .operation)) (c .name) (c .reference) (c .path) (c .key) (c .area) (c .schema) (c .base))
+insertsAfter c = calling c (cond (sameBytes (c .operation) (text "ADDVB")) (text "ADDVA") (c .operation))
+
+-- READR does what READV does
+unfoldable pub readsForward : Call → Outcome
+readsForward c = calling c (cond (sameBytes (c .operation) (text "READR")) (text "READV") (c .operation))
+
+-- ---- a store that says END. too soon
+
+-- an RDNXT that is done gives END. at once
+unfoldable pub sweepsNothing : Call → Outcome
+sweepsNothing c = cond (did (Rdnxt ∷ []) c) (record { status = Done; reference = endRef; area = c .area; base = c .base }) (outcome c)

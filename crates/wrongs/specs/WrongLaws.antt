@@ -1,26 +1,28 @@
 -- The wrong stores do not meet the conditions. Condition 2: a store that meets it is `outcome`, and so answers every trial as `outcome` does.
--- Condition 3: after the trial's calls sign-on accepts, and READV with LKxx gives the first point of the plain list.
+-- Condition 3: after the trial's calls sign-on accepts, READV with LKxx gives the first point of the plain list and READR the last, and a sweep
+-- finds a point where the plain list has one.
 use Prim.Native.Nat.{ℕ}
 use mathlib.Core.Path.{_≡_, refl, sym, ap, _∙_}
 use mathlib.Core.Logic.{_≢_, inl, inr}
 use mathlib.Core.List.{List, [], _∷_}
 use native.Mathlib.Omega.{arith}
 use lib.ListN.{getD}
-use Rattle.octets.specs.BelowLaws.{never-both}
 use Rattle.octets.specs.RunLaws.{eq-sameBytes}
+use Rattle.octets.specs.BelowLaws.{never-both}
 use Rattle.terms.specs.Terms.{endRef}
 use Rattle.terms.specs.Status.{statusNumber}
+use Rattle.schema.specs.declared.Entry.{Entry}
 use Rattle.schema.specs.Decode.{schemaOf}
 use Rattle.calls.specs.Call.{Call, Outcome}
 use Rattle.calls.specs.Outcome.{IsOutcome}
 use Rattle.lists.specs.Plain.{Point}
-use Rattle.lists.specs.Readings.{Request, Reads, Place, setAt, pathAt, readv}
-use Rattle.lists.specs.Condition.{Formatted, Condition3}
+use Rattle.lists.specs.Readings.{Request, Reads, Place, setAt, pathAt, rdnxt, readv, ofKey, SameOnce}
+use Rattle.lists.specs.Condition.{Formatted, Kept, Condition3}
 use Rattle.lists.specs.Theorem.{is-outcome}
-use Rattle.wrongs.specs.Twin.{twin, bottle, path2, linkAt}
-use Rattle.wrongs.specs.Wrong.{refusesAll, alwaysDone, storesNothing, linksFirst, forgetsNext, formatLeaves, insertsAfter}
-use Rattle.wrongs.specs.Trials.{Trial, answers, startOf, endOf, told, Holds, signing, reading, refusing, doing, leavingAll, linking, removing, inserting, formatting}
-use Rattle.wrongs.specs.TrialLaws.{Formats, numbers, plainOn, Readable, computed}
+use Rattle.wrongs.specs.Wrong.{refusesAll, alwaysDone, storesNothing, linksFirst, forgetsNext, formatLeaves, insertsAfter, readsForward, sweepsNothing}
+use Rattle.wrongs.specs.Twin.{twin, bottle, point, path1, path2, linkAt}
+use Rattle.wrongs.specs.Trials.{Trial, answers, startOf, endOf, told, Holds, signing, refusing, doing, leavingAll, linking, removing, inserting, turning, sweeping, formatting}
+use Rattle.wrongs.specs.TrialLaws.{Formats, Readable, computed}
 
 -- ---- condition 2
 
@@ -45,6 +47,12 @@ forgets-next-2 = not-2 removing (computed .removes .0)
 
 pub inserts-after-2 : ((c : Call) → IsOutcome c (insertsAfter c)) → ⊥
 inserts-after-2 = not-2 inserting (computed .inserts .0)
+
+pub reads-forward-2 : ((c : Call) → IsOutcome c (readsForward c)) → ⊥
+reads-forward-2 = not-2 turning (computed .turns .0)
+
+pub sweeps-nothing-2 : ((c : Call) → IsOutcome c (sweepsNothing c)) → ⊥
+sweeps-nothing-2 = not-2 sweeping (computed .sweeps .0)
 
 pub format-leaves-2 : ((c : Call) → IsOutcome c (formatLeaves c)) → ⊥
 format-leaves-2 = not-2 formatting (computed .formats .0)
@@ -86,27 +94,64 @@ format-leaves-3 = refused-3 formatLeaves _ _ (computed .formats .0) (computed .f
 
 -- ---- condition 3: a reading that begins with another point
 
-first-read : (ask : ℕ → Outcome) (r : ℕ) (xs : List Point) → Reads ask r xs → ask r .reference ≡ getD (numbers xs) 0 endRef
-first-read ask r [] h = h .1
-first-read ask r (x ∷ xs) h = h .1
-
--- READV with LKxx gives the first point of the plain list
-reads-plain : (x : Trial) (w : Place) (ns : List ℕ) → Readable x w ns → Condition3 (x .store)
-    → readv (x .store) twin (endOf (x .store) x) w bottle (linkAt w) .reference ≡ getD ns 0 endRef
-reads-plain x w ns p h =
+-- what condition 3 says of the bottle on a path, after the trial's calls
+kept-at : (x : Trial) (w : Place) (xs : List Point) → Readable x w xs → Condition3 (x .store) → Kept (x .store) twin (endOf (x .store) x) w bottle xs
+kept-at x w xs p h =
     let b : List ℕ = startOf (x .store) x in
     let f : Formatted (x .store) twin b = formatted x (p .formats) in
-    first-read _ _ (plainOn x w) (h .kept twin b (x .calls) (λ i j key. []) (inr f) (h .empty twin b f) w bottle (p .place) .forward (p .exists))
-    ∙ ap (λ (xs : List ℕ). getD xs 0 endRef) (p .numbered)
+    rw (← p .listed) (h .kept twin b (x .calls) (λ i j key. []) (inr f) (h .empty twin b f) w bottle (p .place))
 
-misread-3 : (store : Call → Outcome) (calls : List Request) (w : Place) (more : List Request) (a : ℕ) (bs : List ℕ) (n : ℕ) (ms ns : List ℕ)
-    → Holds (reading store calls w more a bs n ms) → Readable (reading store calls w more a bs n ms) w (n ∷ ns) → a ≢ n → Condition3 store → ⊥
-unfolding answers
-misread-3 store calls w more a bs n ms ns t p apart h =
-    apart (sym (ap (λ (xs : List ℕ). getD xs 1 0) (t .0)) ∙ reads-plain (reading store calls w more a bs n ms) w (n ∷ ns) p h)
-
+-- READV with LKxx gives the first point of the plain list
 pub links-first-3 : Condition3 linksFirst → ⊥
-links-first-3 = misread-3 linksFirst _ _ _ _ _ _ _ _ (computed .links .0) (computed .links .1) (λ e. omega arith)
+unfolding answers
+links-first-3 h =
+    omega (
+      arith,
+      ap (λ (ns : List ℕ). getD ns 1 0) (computed .links .0 .0),
+      kept-at linking path2 _ (computed .links .1) h .forward (computed .links .1 .exists) .1,
+    )
 
 pub inserts-after-3 : Condition3 insertsAfter → ⊥
-inserts-after-3 = misread-3 insertsAfter _ _ _ _ _ _ _ _ (computed .inserts .0) (computed .inserts .1) (λ e. omega arith)
+unfolding answers
+inserts-after-3 h =
+    omega (
+      arith,
+      ap (λ (ns : List ℕ). getD ns 1 0) (computed .inserts .0 .0),
+      kept-at inserting path1 _ (computed .inserts .1) h .forward (computed .inserts .1 .exists) .1,
+    )
+
+-- READR with LKxx gives the last one
+pub links-first-backward-3 : Condition3 linksFirst → ⊥
+unfolding answers
+links-first-backward-3 h =
+    omega (
+      arith,
+      ap (λ (ns : List ℕ). getD ns 5 0) (computed .links .0 .0),
+      kept-at linking path2 _ (computed .links .1) h .backward (computed .links .1 .exists) .1,
+    )
+
+pub reads-forward-3 : Condition3 readsForward → ⊥
+unfolding answers
+reads-forward-3 h =
+    omega (
+      arith,
+      ap (λ (ns : List ℕ). getD ns 1 0) (computed .turns .0 .0),
+      kept-at turning path1 _ (computed .turns .1) h .backward (computed .turns .1 .exists) .1,
+    )
+
+-- ---- condition 3: a sweep that finds nothing
+
+-- where the plain list has a point the first RDNXT does not say END.
+finds : (e : Entry) (j : ℕ) (key : List ℕ) (ask : ℕ → Outcome) (zs : List Point) (x : Point) (xs : List Point)
+    → Reads ask 0 zs → SameOnce (ofKey e j key zs) (x ∷ xs) → ask 0 .reference ≢ endRef
+unfolding ofKey
+finds e j key ask [] x xs h s end = s .back x (inl refl)
+finds e j key ask (z ∷ zs) x xs h s end = h .3 (sym (h .1) ∙ end)
+
+pub sweeps-nothing-3 : Condition3 sweepsNothing → ⊥
+unfolding answers
+sweeps-nothing-3 h =
+    let b : List ℕ = endOf sweepsNothing sweeping in
+    let k : Kept sweepsNothing twin b path1 bottle (point 1 ∷ []) = kept-at sweeping path1 _ (computed .sweeps .1) h in
+    finds _ _ bottle (rdnxt sweepsNothing twin b path1) (k .sweep .0) (point 1) [] (k .sweep .1) (k .sweep .2)
+    (ap (λ (ns : List ℕ). getD ns 1 0) (computed .sweeps .0 .0))
