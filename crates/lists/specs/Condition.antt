@@ -11,18 +11,18 @@ use Rattle.terms.specs.declared.Status.the-variants.{Done}
 use Rattle.schema.specs.Decode.{schemaOf}
 use Rattle.calls.specs.Call.{Call, Outcome, callOf}
 use Rattle.lists.specs.Plain.{Point, Lists}
-use Rattle.lists.specs.Readings.{Request, run, plain, NoDamage, Reads, Place, setAt, entryAt, pathAt, link, IsPlace, noSet, noPath, rdnxt, Exists, readv, readr, ofKey, SameOnce}
+use Rattle.lists.specs.Readings.{Request, run, plain, NoDamage, Reads, Place, setAt, entryAt, pathAt, link, IsPlace, noSetName, noPathName, rdnxt, Exists, readv, readr, ofKey, SameOnce}
 
 -- ---- where a sequence starts
 
 -- SINON answers ****
 abbrev pub SignsOn : (Call → Outcome) → List ℕ → List ℕ → Type 0
-SignsOn answer s b = answer (callOf (text "SINON") noSet 0 noPath [] [] s b) .status ≡ Done
+SignsOn answer s b = answer (callOf (text "SINON") noSetName 0 noPathName [] [] s b) .status ≡ Done
 
 -- b is what a FORMT that answered **** left
 abbrev pub Formatted : (Call → Outcome) → List ℕ → List ℕ → Type 0
 Formatted answer s b =
-    (q : List ℕ) × (answer (callOf (text "FORMT") noSet 0 noPath [] [] s q) .status ≡ Done) × (b ≡ answer (callOf (text "FORMT") noSet 0 noPath [] [] s q) .base)
+    (q : List ℕ) × (answer (callOf (text "FORMT") noSetName 0 noPathName [] [] s q) .status ≡ Done) × (b ≡ answer (callOf (text "FORMT") noSetName 0 noPathName [] [] s q) .base)
 
 abbrev pub Start : (Call → Outcome) → List ℕ → List ℕ → Type 0
 Start answer s b = SignsOn answer s b ⊎ Formatted answer s b

@@ -36,7 +36,7 @@ use Rattle.keeping.specs.Rows.{PathRows}
 use Rattle.housing.specs.FindLaws.{find-live}
 use Rattle.linking.specs.RowFacts.{row-master}
 use Rattle.lists.specs.Plain.{setOf, entryIn}
-use Rattle.lists.specs.Readings.{Place, setAt, entryAt, pathAt, IsPlace, Exists, noPath}
+use Rattle.lists.specs.Readings.{Place, setAt, entryAt, pathAt, IsPlace, Exists, noPathName}
 use Rattle.lists.specs.PlaceLaws.{place-path}
 use Rattle.lists.specs.Shown.{Ready}
 use Rattle.lists.specs.Outcomes.{outcome-done, done-rungs}
@@ -103,12 +103,12 @@ module _ (s b : List ℕ) (rows : ℕ → ℕ → List ℕ → List ℕ) (g : Re
   x = mastersOn t (entryAt t w) (pathAt t w)
 
   pub exists-says : Exists outcome s b w key → (m : ℕ) × Live b x m × (masterKey b x m ≡ key)
-  exists-says h = rw (p .masters) at (found-by (callOf (text "READM") (w .masters) 0 noPath key (w .master-area) s b) refl h)
+  exists-says h = rw (p .masters) at (found-by (callOf (text "READM") (w .masters) 0 noPathName key (w .master-area) s b) refl h)
 
   exists-holds : (m : ℕ) → Live b x m → masterKey b x m ≡ key → Exists outcome s b w key
   unfolding done
   exists-holds m l k =
-      let c = callOf (text "READM") (w .masters) 0 noPath key (w .master-area) s b in
+      let c = callOf (text "READM") (w .masters) 0 noPathName key (w .master-area) s b in
       let ok = g .world .ok in
       let n : setNamed t (w .masters) < t .masters = rw (p .masters) (place-master t ok w p) in
       let kind : isMaster (entryIn c) ≡ true = is-master t ok (setNamed t (w .masters)) n in

@@ -91,20 +91,20 @@ pub record IsPlace (t : Schema) (w : Place) : Type 0 where
   pub master-area : length (w .master-area) ≡ areaLength (entryOf t (setNamed t (w .masters)))
 
 -- the names of a set and of a path that a call does not need: blanks
-abbrev pub noSet : List ℕ
-noSet = text "    "
+abbrev pub noSetName : List ℕ
+noSetName = text "    "
 
-abbrev pub noPath : List ℕ
-noPath = text "        "
+abbrev pub noPathName : List ℕ
+noPathName = text "        "
 
 module _ (answer : Call → Outcome) (s b : List ℕ) (w : Place) where
   abbrev pub rdnxt : ℕ → Outcome
-  rdnxt r = answer (callOf (text "RDNXT") (w .set) r noPath [] (w .point-area) s b)
+  rdnxt r = answer (callOf (text "RDNXT") (w .set) r noPathName [] (w .point-area) s b)
 
   module _ (key : List ℕ) where
     -- the master exists: READM answers ****
     abbrev pub Exists : Type 0
-    Exists = answer (callOf (text "READM") (w .masters) 0 noPath key (w .master-area) s b) .status ≡ Done
+    Exists = answer (callOf (text "READM") (w .masters) 0 noPathName key (w .master-area) s b) .status ≡ Done
 
     abbrev pub readv : ℕ → Outcome
     readv r = answer (callOf (text "READV") (w .set) r (w .path) key (w .point-area) s b)

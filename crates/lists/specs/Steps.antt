@@ -14,7 +14,6 @@ use Rattle.terms.specs.declared.Operation.the-variants.{Formt, Sinon, AddM, Del
 use Rattle.terms.specs.Operation.{operationOf}
 use Rattle.terms.specs.Status.{statusNumber}
 use Rattle.terms.specs.Laws.{status-number-one}
-use Rattle.schema.specs.declared.Entry.{Entry}
 use Rattle.schema.specs.declared.Schema.{Schema}
 use Rattle.schema.specs.Decode.{schemaOf}
 use Rattle.plans.specs.Plan.{storeAll, sealAll, committed, formatted}
@@ -31,7 +30,7 @@ use Rattle.keeping.specs.FreshLaws.{format-represents}
 use Rattle.housing.specs.MasterStep.{MasterStep}
 use Rattle.housing.specs.MasterSteps.{add-master-step, del-master-step, write-master-step}
 use Rattle.linking.specs.FollowLaws.{master-step-keeps}
-use Rattle.lists.specs.Plain.{Lists, before, behind, setOf, entryIn, pathIn, atEnd, stepBy, step}
+use Rattle.lists.specs.Plain.{Lists, before, behind, setOf, pathIn, atEnd, stepBy, step}
 use Rattle.lists.specs.Shown.{Ready}
 use Rattle.lists.specs.ShownLaws.{shown-append, before-shown, behind-shown}
 use Rattle.lists.specs.Outcomes.{done-is, done-rungs}
@@ -57,9 +56,6 @@ module _ (c : Call) (rows : AllRows) (g : Ready (c .schema) (c .base) rows) wher
 
   abbrev n : ℕ
   n = setOf c
-
-  abbrev e : Entry
-  e = entryIn c
 
   abbrev j : ℕ
   j = pathIn c

@@ -31,7 +31,7 @@ use Rattle.keeping.specs.Rows.{World}
 use Rattle.keeping.specs.FreshLaws.{format-represents}
 use Rattle.linking.specs.Standing.{rowsIn, sound-represents, represents-sound}
 use Rattle.lists.specs.Plain.{Lists}
-use Rattle.lists.specs.Readings.{Request, under, run, plain, NoDamage, Place, setAt, entryAt, pathAt, IsPlace, Exists, readv, link, noSet, noPath}
+use Rattle.lists.specs.Readings.{Request, under, run, plain, NoDamage, Place, setAt, entryAt, pathAt, IsPlace, Exists, readv, link, noSetName, noPathName}
 use Rattle.lists.specs.Condition.{SignsOn, Formatted, Start, StartLists, Kept, Condition3}
 use Rattle.lists.specs.ReadingLaws.{step-unseen, reads-one}
 use Rattle.lists.specs.PlaceLaws.{place-path}
@@ -90,14 +90,14 @@ format-leaves c q d = rw (done-is c d) (rw q refl)
 -- such a data base stands for rows
 signed-ready : (s b : List ℕ) → SignsOn outcome s b → Ready s b (rowsIn (schemaOf s) b)
 signed-ready s b d =
-    let c = callOf (text "SINON") noSet 0 noPath [] [] s b in
+    let c = callOf (text "SINON") noSetName 0 noPathName [] [] s b in
     let k = general c d in
     let w = world s (k .0) in
     record { rules = k .0; world = w; stands = sound-represents (schemaOf s) b w (k .1) (signs-sound c signing-on d) }
 
 format-ready : (s b : List ℕ) → Formatted outcome s b → Ready s b (λ i j key. [])
 format-ready s b f =
-    let c = callOf (text "FORMT") noSet 0 noPath [] [] s (f .0) in
+    let c = callOf (text "FORMT") noSetName 0 noPathName [] [] s (f .0) in
     let k = general c (f .1) in
     let w = world s (k .0) in
     record { rules = k .0; world = w; stands = rw (f .2, format-leaves c formatting (f .1)) (format-represents (schemaOf s) w) }
@@ -145,8 +145,8 @@ module _ (c : Call) (rules : keepsRules (c .schema) ≡ true) (sized : length (c
   formats = rw (outcome-done c (climbed (sceneOf c) c format-rungs)) refl
 
 pub every-schema : (s q : List ℕ) → keepsRules s ≡ true → length q ≡ 512 * schemaOf s .blocks
-    → Formatted outcome s (outcome (callOf (text "FORMT") noSet 0 noPath [] [] s q) .base)
-every-schema s q rules sized = (q, formats (callOf (text "FORMT") noSet 0 noPath [] [] s q) rules sized formatting, refl)
+    → Formatted outcome s (outcome (callOf (text "FORMT") noSetName 0 noPathName [] [] s q) .base)
+every-schema s q rules sized = (q, formats (callOf (text "FORMT") noSetName 0 noPathName [] [] s q) rules sized formatting, refl)
 
 -- ---- readings show the rows
 
@@ -160,7 +160,7 @@ module _ (s b : List ℕ) (rows : AllRows) (g : Ready s b rows) where
 
   -- and no others
   starts-shown : (l : Lists) → StartLists outcome s b l → (w : Place) → IsPlace (schemaOf s) w → Shows (schemaOf s) b rows l (setAt (schemaOf s) w) (pathAt (schemaOf s) w)
-  starts-shown l h w p key = by (status? (outcome (callOf (text "READM") (w .masters) 0 noPath key (w .master-area) s b) .status))
+  starts-shown l h w p key = by (status? (outcome (callOf (text "READM") (w .masters) 0 noPathName key (w .master-area) s b) .status))
     where
       by : Exists outcome s b w key ⊎ (Exists outcome s b w key → ⊥)
           → l (setAt (schemaOf s) w) (pathAt (schemaOf s) w) key ≡ shown b (entryAt (schemaOf s) w) (rows (setAt (schemaOf s) w) (pathAt (schemaOf s) w) key)
@@ -212,7 +212,7 @@ condition-3 = record {
   starts = λ s b h. let r = start-ready s b h in (λ i j key. shown b (entryOf (schemaOf s) i) (r .0 i j key), shown-starts s b (r .0) (r .1));
   empty = λ s b h. shown-starts s b (λ i j key. []) (format-ready s b h);
   quiet = λ s b qs h. let r = start-ready s b h in quiet-run s b (r .0) (r .1) qs;
-  accepted = λ s b qs h. let r = start-ready s b h in let e = run-ready s b (r .0) (r .1) qs in signs (callOf (text "SINON") noSet 0 noPath [] [] s (run outcome s b qs)) (e .0) (e .1) signing-on;
+  accepted = λ s b qs h. let r = start-ready s b h in let e = run-ready s b (r .0) (r .1) qs in signs (callOf (text "SINON") noSetName 0 noPathName [] [] s (run outcome s b qs)) (e .0) (e .1) signing-on;
   kept = λ s b qs l h k w key p.
       let r = start-ready s b h in
       let i = setAt (schemaOf s) w in

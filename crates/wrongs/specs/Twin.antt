@@ -7,7 +7,7 @@ use Rattle.octets.specs.Text.{text}
 use Rattle.blocks.specs.Blocks.{seal}
 use Rattle.schema.specs.Decode.{schemaOf}
 use Rattle.lists.specs.Plain.{Point}
-use Rattle.lists.specs.Readings.{Request, Place, link, noSet, noPath}
+use Rattle.lists.specs.Readings.{Request, Place, link, noSetName, noPathName}
 use Rattle.cases.specs.Small.{twoSets, botl}
 
 -- D 4, R 3, paths BOTLLKPT and BOTLLKQT
@@ -23,13 +23,13 @@ bottle = text "B001"
 -- ---- the calls
 
 abbrev pub formt : Request
-formt = record { operation = text "FORMT"; name = noSet; reference = 0; path = noPath; key = []; area = [] }
+formt = record { operation = text "FORMT"; name = noSetName; reference = 0; path = noPathName; key = []; area = [] }
 
 abbrev pub signOn : Request
-signOn = record { operation = text "SINON"; name = noSet; reference = 0; path = noPath; key = []; area = [] }
+signOn = record { operation = text "SINON"; name = noSetName; reference = 0; path = noPathName; key = []; area = [] }
 
 abbrev pub addBottle : Request
-addBottle = record { operation = text "ADD-M"; name = text "BOTL"; reference = 0; path = noPath; key = bottle; area = bottle ++ text "NECK" }
+addBottle = record { operation = text "ADD-M"; name = text "BOTL"; reference = 0; path = noPathName; key = bottle; area = bottle ++ text "NECK" }
 
 -- a call on the first path
 abbrev pointCall : List ℕ → ℕ → List ℕ → Request
@@ -75,4 +75,4 @@ abbrev pub linkAt : Place → ℕ
 linkAt w = link (schemaOf twin) w
 
 abbrev pub sweepFrom : Place → ℕ → Request
-sweepFrom w r = record { operation = text "RDNXT"; name = w .set; reference = r; path = noPath; key = []; area = w .point-area }
+sweepFrom w r = record { operation = text "RDNXT"; name = w .set; reference = r; path = noPathName; key = []; area = w .point-area }
