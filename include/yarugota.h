@@ -1,9 +1,14 @@
 /* Yarugota: the C interface.
  *
- * Every function takes buffers of any length and contents and refuses what is bad by its answer; none has a precondition on what they
- * hold. A pointer is not null, also where its length is 0. No function keeps a pointer, takes memory or has state of its own: a data base
- * is what its bytes say. yarugota_call is in the archive of crate store (libstore.a), the other four in that of crate probes
- * (libprobes.a).
+ * A data base is a buffer of 512-byte blocks, its schema one block more. The caller owns both, and hands them over with
+ * their lengths. Buffers may have any length and hold anything: what is bad is refused by the answer. A pointer must not
+ * be null, also where its length is 0. No function keeps a pointer, takes memory or has state of its own.
+ *
+ * To begin: make a schema and set its check by yarugota_block_seal (number 0), learn by yarugota_schema_blocks how many
+ * blocks the data base has, and call FORMT for a new data base or SINON for one that was kept. Then come the other calls.
+ *
+ * `tools/archives` builds two archives, which may be linked together: libstore.a has yarugota_call, libprobes.a has the
+ * other four functions. yarugota_code, which is inline here, is the only one that is not proved.
  */
 #ifndef YARUGOTA_H
 #define YARUGOTA_H
@@ -15,8 +20,7 @@
 extern "C" {
 #endif
 
-/* What a call answers: the numbers of document 01's table. Of several faults the one that document 01 tests first is answered, which is
- * not always the lowest number. */
+/* The status of a call. Of several faults the one tested first is told, which is not always the lowest number. */
 enum yarugota_status {
     YARUGOTA_DONE = 0,  /* **** */
     YARUGOTA_SCHM = 1,  /* schema breaks a rule */
@@ -32,34 +36,65 @@ enum yarugota_status {
     YARUGOTA_IVRP = 11, /* bad reference */
     YARUGOTA_MRNF = 12, /* no such master */
     YARUGOTA_DUPM = 13, /* master exists */
-    YARUGOTA_IMDL = 14, /* master has a first or last not 0 */
+    YARUGOTA_IMDL = 14, /* master has a first or last not 0: it still has variable records */
     YARUGOTA_FULL = 15, /* no free record in the set */
     YARUGOTA_DAMG = 16  /* damage met */
 };
 
-/* The reference END., which no record number reaches: a read found no such record, and left the area as it was. */
+/* The four characters of a status. */
+static inline const char *yarugota_code(enum yarugota_status status)
+{
+    static const char *const codes[] = {"****", "SCHM", "SIZE", "FUNC", "FNTF", "KIND", "PATH", "AREA", "KLEN",
+                                        "BCTL", "KEYS", "IVRP", "MRNF", "DUPM", "IMDL", "FULL", "DAMG"};
+    return (uint32_t)status <= YARUGOTA_DAMG ? codes[status] : "????";
+}
+
+/* The reference END.: a read found no such record, and left the area as it was. No record number reaches it. */
 #define YARUGOTA_END UINT32_C(0x454E442E)
 
-/* The reference LKxx of a path, from its two letters: where READV and READR begin, and what DELVD gives back for a first record. */
+/* The reference LKxx of a path, from its two letters: where READV and READR begin, and what DELVD gives back for a
+ * first record. No record number reaches it. */
 #define YARUGOTA_LK(x, y) (UINT32_C(0x4C4B0000) | (uint32_t)(uint8_t)(x) << 8 | (uint32_t)(uint8_t)(y))
 
-/* One call of the store. Given are
- *   op         the operation, 5 bytes: FORMT, SINON, ADD-M, DEL-M, READM, WRITM, RQLOC, RDNXT, READV, READR, READD, WRITV, ADDVC, ADDVB,
- *              ADDVA or DELVD; no other is known
+/* One call of the store.
+ *   op         the operation, 5 bytes, one of those below
  *   set        the set's name, 4 bytes
- *   reference  a record number, LKxx or END.
- *   path       the path's name mmmmLKxx, 8 bytes
- *   key        the control key
- *   area       key and D bytes of a master, or keys in path order and D bytes of a variable record. A read that gives a record replaces
- *              the whole area; no other call changes it
+ *   reference  a record number, LKxx or END.; each set counts its records from 1
+ *   path       the path's name mmmmLKxx, 8 bytes: mmmm the master set, xx the path's letters
+ *   key        the control key: that of the master which the call is about
+ *   area       the record: a master's key and its D bytes of data, or a variable record's keys in path order and its D
+ *              bytes of data
  *   schema     the schema's block, 512 bytes
- *   base       the data base, 512 bytes for each of the schema's T blocks
- * A parameter that the operation does not use may hold anything. The answer is the status in the upper 32 bits and the reference in the
- * lower. A call that is refused (status not 0) gives the reference back as it was given, and area and data base are as they were. The
- * buffers must not overlap. */
+ *   base       the data base, 512 bytes for each block
+ *
+ * On masters, with set and key; all but DEL-M and RQLOC with area:
+ *   ADD-M  adds a master                      DEL-M  deletes one that has no variable records
+ *   READM  reads one                          WRITM  replaces its data
+ *   RQLOC  gives the key's home
+ * On variable records, with set, path and key; all but DELVD with area, and all with reference:
+ *   READV  reads the first (LKxx), or the one after the reference, on the path
+ *   READR  reads the last (LKxx), or the one before the reference, on the path
+ *   READD  reads the record of that number
+ *   WRITV  replaces the data of the record of that number
+ *   ADDVC  adds a record, last on all its paths; the reference only must not be END.
+ *   ADDVB  adds a record before the reference on the path, last on the others
+ *   ADDVA  adds a record after the reference on the path, last on the others
+ *   DELVD  deletes the record of that number from all its paths
+ * On either kind, with set, reference and area:
+ *   RDNXT  reads the next live record above the reference, 0 to begin
+ * On the whole data base:
+ *   FORMT  zeroes it and sets its checks      SINON  answers DAMG where it is not sound
+ * A parameter that the operation does not use may hold anything, but op, set and path always point to so many bytes.
+ *
+ * The answer is the status in the upper 32 bits and a reference in the lower:
+ *   of a read, of WRITV and of an add of a variable record, the record's number; END. where a read found no such record
+ *   of RQLOC, the home; of DELVD, the record before on the path, or LKxx where there was none
+ *   of the others, and of every call that is refused (status not 0), the reference as it was given
+ * A refused call leaves area and data base as they were. A read that gives a record replaces the whole area; no other
+ * call changes it. The buffers must not overlap. */
 uint64_t yarugota_call(const uint8_t *op /* 5 bytes */, const uint8_t *set /* 4 bytes */, uint32_t reference,
-                       const uint8_t *path /* 8 bytes */, const uint8_t *key, size_t key_len, uint8_t *area, size_t area_len,
-                       const uint8_t *schema, size_t schema_len, uint8_t *base, size_t base_len);
+                       const uint8_t *path /* 8 bytes */, const uint8_t *key, size_t key_len, uint8_t *area,
+                       size_t area_len, const uint8_t *schema, size_t schema_len, uint8_t *base, size_t base_len);
 
 /* The two parts of that answer. */
 #define YARUGOTA_STATUS(answer) ((enum yarugota_status)((answer) >> 32))
@@ -68,14 +103,16 @@ uint64_t yarugota_call(const uint8_t *op /* 5 bytes */, const uint8_t *set /* 4 
 /* T, the blocks that all sets of the schema take together (1..4096); 0 where the schema breaks a rule (SCHM). */
 uint32_t yarugota_schema_blocks(const uint8_t *schema, size_t schema_len);
 
-/* The byte of the data base at which a record begins: entries are counted from 0, records from 1. 2^64 - 1 where the schema breaks a
- * rule, has no such entry, or the entry no such record. */
+/* The byte of the data base at which a record begins: entries of the schema are counted from 0, masters first, records
+ * from 1. 2^64 - 1 where the schema breaks a rule, has no such entry, or the entry no such record. */
 uint64_t yarugota_record_place(const uint8_t *schema, size_t schema_len, uint32_t entry, uint32_t record);
 
-/* 1 where the buffer is one block of 512 bytes whose check is true for this block number; else 0. */
+/* 1 where the buffer is one block of 512 bytes whose check is true for this block number; else 0. The schema's block
+ * has number 0; the blocks of a data base are counted from 0. */
 uint32_t yarugota_block_sealed(const uint8_t *block, size_t block_len, uint32_t number);
 
-/* Sets the check of one block for this block number and answers 1; a buffer of another length is left alone and answers 0. */
+/* Sets the check of one block for this block number and answers 1; a buffer of another length is left alone and answers
+ * 0. The store sets the checks of a data base itself: this is for a schema, and for blocks that a program makes. */
 uint32_t yarugota_block_seal(uint8_t *block, size_t block_len, uint32_t number);
 
 #ifdef __cplusplus

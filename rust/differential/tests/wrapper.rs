@@ -1,10 +1,11 @@
 //! The wrapper for Rust programs: it names things as document 01 and the C
-//! header do, and hands calls over unchanged.
+//! header do, hands calls over unchanged, and writes schemas as they are read.
 
 use yarugota::{PathName, Reference, SetName};
 use yarugota_model::{Operation, Schema, Status};
 use yarugota_support::calls::CallMaker;
-use yarugota_support::{model, schemas, Random};
+use yarugota_support::schemas::{self, Draft};
+use yarugota_support::{model, Random};
 
 #[test]
 fn statuses_are_numbered_as_in_the_header() {
@@ -28,6 +29,15 @@ fn statuses_are_numbered_as_in_the_header() {
     let end = yarugota_model::reference::END;
     assert_eq!(Reference::END.bits(), end);
     assert!(header.contains(&format!("UINT32_C(0x{end:X})")));
+}
+
+#[test]
+fn the_header_has_the_codes_in_their_order() {
+    let header = include_str!("../../../include/yarugota.h");
+    let (_, after) = header.split_once("codes[] = {").expect("a list of codes");
+    let (list, _) = after.split_once('}').expect("its end");
+    let listed: Vec<&str> = list.split('"').skip(1).step_by(2).collect();
+    assert_eq!(listed, Status::ALL.map(|status| status.code()));
 }
 
 const OPERATIONS: [yarugota::Operation; 16] = {
@@ -69,4 +79,116 @@ fn calls_go_over_unchanged() {
         assert_eq!(area, made.area, "{call:?}");
         assert!(ours == base, "{call:?}");
     }
+}
+
+/// The draft's sets, given to the wrapper one by one.
+fn built(draft: &Draft) -> yarugota::Schema {
+    let mut sets = yarugota::Schema::new();
+    for set in &draft.masters {
+        sets = sets.master(
+            SetName(set.name),
+            set.key_length,
+            set.data_length,
+            set.records,
+        );
+    }
+    for set in &draft.variables {
+        let name = |path: &schemas::Path| {
+            let master = &draft.masters[usize::from(path.master)];
+            PathName::new(SetName(master.name), path.letters)
+        };
+        let paths: Vec<PathName> = set.paths.iter().map(name).collect();
+        sets = sets.variable(SetName(set.name), set.data_length, set.records, &paths);
+    }
+    sets
+}
+
+#[test]
+fn schemas_are_written_as_they_are_read() {
+    let mut random = Random::new(12);
+    for _ in 0..500 {
+        let draft = schemas::any(&mut random);
+        let sets = built(&draft);
+        assert!(draft.encode() == sets.block(), "{draft:?}");
+        let schema = Schema::decode(&sets.block()).expect("a schema that keeps every rule");
+        assert_eq!(sets.blocks(), schema.blocks(), "{draft:?}");
+    }
+}
+
+/// Whether the store takes the schema, and a data base of so many blocks. It
+/// must where the model does.
+fn taken(sets: &yarugota::Schema) -> bool {
+    let schema = sets.block();
+    let mut base = vec![0; 512 * sets.blocks()];
+    let format = yarugota::Call::new(yarugota::Operation::Formt);
+    let status = yarugota::call(&format, &mut [], &schema, &mut base).status;
+    let expected = match Schema::decode(&schema) {
+        Some(_) => yarugota::Status::Done,
+        None => yarugota::Status::Schm,
+    };
+    assert_eq!(status, expected, "{sets:?}");
+    status == yarugota::Status::Done
+}
+
+/// So many masters and variable sets, and so many paths to each of these.
+fn filled(masters: u8, variables: u8, paths: u8, data: u16, records: u32) -> yarugota::Schema {
+    let name = |letter: u8, number| SetName([letter, b'S', b'E', b'0' + number]);
+    let mut sets = yarugota::Schema::new();
+    for number in 0..masters {
+        sets = sets.master(name(b'M', number), 16, data, records);
+    }
+    for number in 0..variables {
+        let path =
+            |other| PathName::new(name(b'M', other % masters), [b'0' + number, b'0' + other]);
+        let paths: Vec<PathName> = (0..paths).map(path).collect();
+        sets = sets.variable(name(b'V', number), data, records, &paths);
+    }
+    sets
+}
+
+#[test]
+fn schemas_may_have_four_of_each() {
+    assert!(taken(&filled(4, 4, 4, 0, 1)));
+    assert!(taken(&filled(1, 4, 4, 0, 1)));
+    assert!(taken(&filled(1, 0, 0, 0, 1)));
+    assert!(!taken(&filled(5, 4, 4, 0, 1)));
+    assert!(!taken(&filled(4, 5, 4, 0, 1)));
+    assert!(!taken(&filled(4, 4, 5, 0, 1)));
+    assert!(!taken(&filled(4, 4, 0, 0, 1)));
+    assert!(!taken(&filled(1, 200, 9, 0, 1)));
+    assert!(!taken(&yarugota::Schema::new()));
+}
+
+#[test]
+fn schemas_may_be_as_large_as_the_rules_allow() {
+    let small = |points| {
+        let sets = yarugota::Schema::new().master(SetName(*b"BOTL"), 4, 4, 5);
+        sets.variable(SetName(*b"PNTS"), 4, points, &[PathName(*b"BOTLLKPT")])
+    };
+    assert!(taken(&small(65_535)));
+    assert!(!taken(&small(65_536)));
+    assert!(!taken(&small(0)));
+    assert!(!taken(&small(u32::MAX)));
+    let bottles =
+        |data, records| yarugota::Schema::new().master(SetName(*b"BOTL"), 4, data, records);
+    assert!(taken(&bottles(492, 4096)));
+    assert!(!taken(&bottles(492, 4097)));
+    assert_eq!(bottles(492, 4097).blocks(), 0);
+    assert!(!taken(&bottles(493, 1)));
+    assert_eq!(bottles(493, 1).blocks(), 0);
+    assert!(!taken(&bottles(u16::MAX, 1)));
+}
+
+#[test]
+fn a_path_names_its_master() {
+    let paths = |path: &[u8; 8]| {
+        let sets = yarugota::Schema::new().master(SetName(*b"BOTL"), 4, 4, 5);
+        let sets = sets.master(SetName(*b"CASE"), 8, 4, 5);
+        sets.variable(SetName(*b"PNTS"), 4, 6, &[PathName(*path)])
+    };
+    assert!(taken(&paths(b"BOTLLKPT")));
+    assert!(taken(&paths(b"CASELKPT")));
+    assert!(!taken(&paths(b"PNTSLKPT")));
+    assert!(!taken(&paths(b"BOTLKLPT")));
+    assert!(!taken(&paths(b"BOTLLKpt")));
 }

@@ -3,25 +3,18 @@
 //! A data base is a buffer of bytes, and so is its schema; whoever calls owns
 //! both. [`call`] is the whole interface: one operation on one data base. It
 //! takes buffers of any length and contents, and refuses what is bad by its
-//! [`Status`].
+//! [`Status`]. [`Schema`] helps to write a schema.
 //!
 //! ```
-//! use yarugota::{call, Call, Operation, PathName, Reference, SetName, Status};
+//! use yarugota::{call, Call, Operation, PathName, Reference, Schema, SetName, Status};
 //!
 //! // The small store of document 01: bottles, and points along one path.
-//! let mut schema = vec![0; 512];
-//! schema[..3].copy_from_slice(&[1, 1, 1]);
-//! schema[16..29].copy_from_slice(b"BOTL\x01\x00\x00\x04\x00\x00\x00\x05\x04");
-//! schema[64..76].copy_from_slice(b"PNTS\x02\x01\x00\x04\x00\x00\x00\x06");
-//! schema[80..82].copy_from_slice(b"PT");
-//! let words = schema.chunks(4).map(|word| u32::from_be_bytes(word.try_into().unwrap()));
-//! let check = words.fold(0, u32::wrapping_add);
-//! schema[508..].copy_from_slice(&check.to_be_bytes());
-//! let mut base = vec![0; 1024];
-//!
 //! let bottles = SetName(*b"BOTL");
 //! let points = SetName(*b"PNTS");
 //! let path = PathName(*b"BOTLLKPT");
+//! let sets = Schema::new().master(bottles, 4, 4, 5).variable(points, 4, 6, &[path]);
+//! let schema = sets.block();
+//! let mut base = vec![0; 512 * sets.blocks()];
 //!
 //! let formatted = call(&Call::new(Operation::Formt), &mut [], &schema, &mut base);
 //! assert_eq!(formatted.status, Status::Done);
@@ -49,20 +42,22 @@
 //!
 //! The proved library is for x86-64. On such a processor it is linked in; on
 //! another, calls go to a program of their own under an emulator, which takes
-//! longer but answers the same. Either way `rt staticlib store`, run at the
-//! repository root, must have built the library; where it has not, the first
-//! call panics and says so.
+//! longer but answers the same. Either way the repository's `tools/archives`
+//! must have built the library; where it has not, the first call panics and
+//! says so.
 
 mod names;
 mod operation;
 mod raw;
 mod reference;
+mod schema;
 mod status;
 
 pub use names::{PathName, SetName};
 pub use operation::Operation;
 pub use raw::LINKED;
 pub use reference::Reference;
+pub use schema::Schema;
 pub use status::Status;
 
 /// What a call is given, apart from its buffers. A parameter that the

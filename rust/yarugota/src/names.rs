@@ -28,10 +28,15 @@ impl PathName {
         PathName([a, b, c, d, b'L', b'K', x, y])
     }
 
+    /// xx
+    pub const fn letters(self) -> [u8; 2] {
+        let [_, _, _, _, _, _, x, y] = self.0;
+        [x, y]
+    }
+
     /// The path's reference LKxx.
     pub const fn link(self) -> Reference {
-        let [_, _, _, _, _, _, x, y] = self.0;
-        Reference::link([x, y])
+        Reference::link(self.letters())
     }
 }
 

@@ -1,5 +1,7 @@
 //! The operations.
 
+use std::fmt;
+
 /// The sixteen operations of document 01.
 #[derive(Clone, Copy, Debug, PartialEq, Eq, PartialOrd, Ord, Hash)]
 pub enum Operation {
@@ -58,5 +60,11 @@ impl Operation {
             Operation::Addva => b"ADDVA",
             Operation::Delvd => b"DELVD",
         }
+    }
+}
+
+impl fmt::Display for Operation {
+    fn fmt(&self, f: &mut fmt::Formatter) -> fmt::Result {
+        write!(f, "{}", self.name().escape_ascii())
     }
 }

@@ -1,5 +1,7 @@
 //! What a call answers.
 
+use std::fmt;
+
 /// The statuses in the order of document 01's table.
 #[derive(Clone, Copy, Debug, PartialEq, Eq, PartialOrd, Ord, Hash)]
 pub enum Status {
@@ -92,6 +94,13 @@ impl Status {
             Status::Full => "FULL",
             Status::Damg => "DAMG",
         }
+    }
+}
+
+/// Shown by its code.
+impl fmt::Display for Status {
+    fn fmt(&self, f: &mut fmt::Formatter) -> fmt::Result {
+        f.write_str(self.code())
     }
 }
 
