@@ -1,8 +1,9 @@
-/* Writes a schema's block, set by set: for the examples, and for any program that would rather not place the bytes itself. It is not
- * proved; the store judges what it makes, and answers YARUGOTA_SCHM where a rule is broken.
+/* Writes a schema's block set by set, for the examples and for any program that would rather not place bytes itself.
+ * It is not proved; the store judges what it makes, and answers YARUGOTA_SCHM where a rule is broken.
  *
- * In this order: schema_begin; each master set; each variable set, followed by its paths; schema_end. Names have 4 characters, the letters
- * of a path 2. There is room for four masters, four variable sets and four paths to each of these. */
+ * In this order: schema_begin; each master set; each variable set, followed by its paths; schema_end. A name has 4
+ * characters, the letters of a path are 2. There is room for four master sets, four variable sets and four paths of
+ * each of these; one more is a fault of the program, which ends it. */
 #ifndef SCHEMA_H
 #define SCHEMA_H
 

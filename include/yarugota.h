@@ -1,11 +1,11 @@
 /* Yarugota: the C interface.
  *
  * A data base is a buffer of 512-byte blocks, its schema one block more. The caller owns both, and hands them over with
- * their lengths. Buffers may have any length and hold anything: what is bad is refused by the answer. A pointer must not
- * be null, also where its length is 0. No function keeps a pointer, takes memory or has state of its own.
+ * their lengths. Buffers may have any length and hold anything: what is bad is refused by the answer. A pointer must
+ * not be null, also where its length is 0. No function keeps a pointer, takes memory or has state of its own.
  *
  * To begin: make a schema and set its check by yarugota_block_seal (number 0), learn by yarugota_schema_blocks how many
- * blocks the data base has, and call FORMT for a new data base or SINON for one that was kept. Then come the other calls.
+ * blocks the data base has, and call FORMT for a new data base or SINON for one that was kept; then the other calls.
  *
  * `tools/archives` builds two archives, which may be linked together: libstore.a has yarugota_call, libprobes.a has the
  * other four functions. yarugota_code, which is inline here, is the only one that is not proved.

@@ -27,13 +27,13 @@ static uint32_t done(const char *op, const char *set, uint32_t reference, char *
     return YARUGOTA_REFERENCE(answer);
 }
 
-/* Reads the bottle's points from LKPT, where the path begins, to END. */
+/* Reads the bottle's points along the path: LKPT to begin, END. when there are no more. */
 static void read_points(const char *op)
 {
     char area[9] = "";
     uint32_t point = done(op, "PNTS", YARUGOTA_LK('P', 'T'), area);
     while (point != YARUGOTA_END) {
-        printf("%s: record %" PRIu32 ", radius %s\n", op, point, area + 4);
+        printf("%s: record %" PRIu32 ", radius %s mm\n", op, point, area + 4);
         point = done(op, "PNTS", point, area);
     }
 }
@@ -45,7 +45,7 @@ int main(void)
     schema_begin(schema);
     schema_master(schema, "BOTL", 4, 4, 5); /* keys of 4 bytes, 4 bytes of data, 5 records */
     schema_variable(schema, "PNTS", 4, 6);  /* 4 bytes of data, 6 records */
-    schema_path(schema, "PT", 0);           /* BOTLLKPT, from a bottle (entry 0) to its points */
+    schema_path(schema, "PT", 0);           /* path BOTLLKPT, to entry 0: the bottles */
     schema_end(schema);
 
     done("FORMT", "    ", 0, bottle); /* an empty data base */

@@ -4,7 +4,7 @@ use yarugota::{call, Answer, Call, Operation, PathName, Reference, Schema, SetNa
 
 const BOTTLES: SetName = SetName(*b"BOTL");
 const POINTS: SetName = SetName(*b"PNTS");
-const PATH: PathName = PathName(*b"BOTLLKPT"); // from a bottle to its points
+const PATH: PathName = PathName(*b"BOTLLKPT"); // of points, to their bottle
 
 struct Store {
     schema: [u8; 512],
@@ -31,12 +31,13 @@ impl Store {
         answer.reference
     }
 
-    /// Reads the bottle's points from LKPT, where the path begins, to END.
+    /// Reads the bottle's points along the path: LKPT to begin, END. when there are no more.
     fn read_points(&mut self, op: Operation) {
         let mut area = [0; 8];
         let mut point = self.done(op, POINTS, PATH.link(), &mut area);
         while point != Reference::END {
-            println!("{op}: record {point}, radius {}", area[4..].escape_ascii());
+            let radius = area[4..].escape_ascii();
+            println!("{op}: record {point}, radius {radius} mm");
             point = self.done(op, POINTS, point, &mut area);
         }
     }
@@ -60,6 +61,6 @@ fn main() {
 
     store.read_points(Operation::Readv);
     store.read_points(Operation::Readr);
-    let answer = store.call(Operation::DelM, BOTTLES, none, &mut bottle); // it has points
+    let answer = store.call(Operation::DelM, BOTTLES, none, &mut bottle); // refused: it has points
     println!("DEL-M: {}", answer.status);
 }

@@ -1,4 +1,4 @@
-/* What a program can ask beside making calls, on the small store of document 01: whether a schema keeps the rules and how
+/* What a program can ask without a call, on the small store of document 01: whether a schema keeps the rules and how
  * many blocks its data base has, where records begin, and whether a block's check is true. */
 #include <inttypes.h>
 #include <stdio.h>

@@ -52,8 +52,8 @@ impl Schema {
         self
     }
 
-    /// One more variable set, with one to four paths. A path's name tells the
-    /// master set that it leads from.
+    /// One more variable set: `data` bytes of data, room for `records` of them,
+    /// one to four paths. A path's name tells the master set that it leads to.
     pub fn variable(
         mut self,
         name: SetName,
@@ -71,7 +71,7 @@ impl Schema {
     }
 
     /// The schema's block, with its check. Sets or paths that have no place in
-    /// it are counted but not written, and a path from no master set gets the
+    /// it are counted but not written, and a path to no master set gets the
     /// number of none; the store refuses such a block.
     pub fn block(&self) -> [u8; BLOCK] {
         let mut block = [0; BLOCK];
@@ -112,8 +112,8 @@ impl Schema {
     fn master_blocks(&self, at: usize) -> Option<u64> {
         let set = &self.masters[at];
         let paths = self.variables.iter().flat_map(|set| &set.paths);
-        let from_it = paths.filter(|path| self.master_of(path) == Some(at));
-        let length = 12 + u64::from(set.key) + 8 * from_it.count() as u64 + u64::from(set.data);
+        let to_it = paths.filter(|path| self.master_of(path) == Some(at));
+        let length = 12 + u64::from(set.key) + 8 * to_it.count() as u64 + u64::from(set.data);
         blocks_of(set.records, length)
     }
 
@@ -125,7 +125,7 @@ impl Schema {
         blocks_of(set.records, length)
     }
 
-    /// Which master set a path leads from.
+    /// Which master set a path leads to.
     fn master_of(&self, path: &PathName) -> Option<usize> {
         let named = |set: &Master| PathName::new(set.name, path.letters()) == *path;
         self.masters.iter().position(named)
