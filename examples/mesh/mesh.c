@@ -22,9 +22,6 @@ struct store {
     size_t length;
 };
 
-static const char *const codes[] = {"****", "SCHM", "SIZE", "FUNC", "FNTF", "KIND", "PATH", "AREA", "KLEN",
-                                    "BCTL", "KEYS", "IVRP", "MRNF", "DUPM", "IMDL", "FULL", "DAMG"};
-
 static uint64_t call(struct store *s, const char *op, const char *set, uint32_t reference, const char *key, uint8_t *area, size_t length)
 {
     return yarugota_call((const uint8_t *)op, (const uint8_t *)set, reference, (const uint8_t *)"BOTLLKPT", (const uint8_t *)key, KEY,
@@ -36,7 +33,7 @@ static uint32_t must(struct store *s, const char *op, const char *set, uint32_t 
 {
     uint64_t answer = call(s, op, set, reference, key, area, length);
     if (YARUGOTA_STATUS(answer) != YARUGOTA_DONE) {
-        fprintf(stderr, "%s %s %s: %s\n", op, set, key, codes[YARUGOTA_STATUS(answer)]);
+        fprintf(stderr, "%s %s %s: %s\n", op, set, key, yarugota_code(YARUGOTA_STATUS(answer)));
         exit(1);
     }
     return YARUGOTA_REFERENCE(answer);
@@ -45,7 +42,7 @@ static uint32_t must(struct store *s, const char *op, const char *set, uint32_t 
 static const char *sign_on(struct store *s)
 {
     uint8_t none = 0;
-    return codes[YARUGOTA_STATUS(call(s, "SINON", "    ", 0, "    ", &none, 0))];
+    return yarugota_code(YARUGOTA_STATUS(call(s, "SINON", "    ", 0, "    ", &none, 0)));
 }
 
 /* The bottle's D bytes: how many rings it has, and how many points to a ring. */

@@ -38,7 +38,7 @@ impl Store {
                 let program = env!("DRIVER_PROVED");
                 assert!(
                     !program.is_empty(),
-                    "the proved store is missing: `rt staticlib store`, run at the repository root, comes first"
+                    "the proved store is missing: `tools/archives`, run at the repository root, comes first"
                 );
                 let mut command = Command::new(env!("RUN_X86"));
                 command.arg(program);

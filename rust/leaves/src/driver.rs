@@ -23,7 +23,7 @@ impl Driver {
     fn start() -> Driver {
         assert!(
             !env!("DRIVER").is_empty(),
-            "the proved leaves are missing: `rt staticlib probes`, run at the repository root, comes first"
+            "the proved leaves are missing: `tools/archives`, run at the repository root, comes first"
         );
         let mut child = Command::new(env!("RUN_X86"))
             .arg(env!("DRIVER"))
