@@ -1,0 +1,71 @@
+// The named master, and the referenced record where the call looks at it.
+use super::Sighted;
+use masters::Found;
+use masters::walk;
+use records::fields::is_live;
+use records::fields::key_is;
+use schema::Entry;
+use schema::Path;
+use terms::Key;
+use terms::RecordNo;
+use terms::Status;
+ghost use mathlib.Core.Path.{_≡_};
+ghost use mathlib.Core.Bool.{true};
+ghost use lib.ListN.{length};
+ghost use Rattle.terms.specs.Terms.{keyOf};
+ghost use Rattle.schema.specs.Place.{InSet};
+ghost use Rattle.chains.specs.Chains.{isPointOf};
+ghost use Rattle.points.specs.VariableIn.{PathIn, PointsIn};
+ghost use Rattle.onpoints.specs.OnPath.{Reached, Sights};
+
+// Is the record r live, and of that key on the path?
+fn is_point(base: &[u8], e: Entry, p: Path, key: Key, r: RecordNo) -> bool
+    requires { ⌜ PointsIn e (length (now base)) ⌝ }
+    requires { ⌜ PathIn e p ⌝ }
+    requires { ⌜ key .len ≡ p .len ⌝ }
+    requires { ⌜ InSet e (r .0) ⌝ }
+    ensures { λ s. ⌜ s ≡ isPointOf (now (base .entry)) e p (keyOf key) (r .0) ⌝ }
+{
+    let live = is_live(base, e, r);
+    let same = key_is(base, e, r, p.at as usize, key);
+    live & same
+}
+
+// "find the named master (16, then 12)", then 11 where the call looks at the referenced record.
+pub fn seek(base: &[u8], e: Entry, p: Path, x: Entry, r: u32, key: Key, looks: bool) -> Sighted
+    requires { ⌜ Reached e p x (length (now base)) ⌝ }
+    requires { ⌜ key .len ≡ x .key ⌝ }
+    requires { ⌜ (looks ≡ true → InSet e r) ⌝ }
+    ensures { λ s. ⌜ Sights (now (base .entry)) e p x r (keyOf key) looks s ⌝ }
+{
+    let s = walk::find(base, x, key);
+    let found = s.found;
+    match found {
+        Found::Damaged => Sighted {
+            status: Status::Damg,
+            master: RecordNo(0),
+        },
+        Found::Missing => Sighted {
+            status: Status::Mrnf,
+            master: RecordNo(0),
+        },
+        Found::At(m) => {
+            if !looks {
+                return Sighted {
+                    status: Status::Done,
+                    master: m,
+                };
+            }
+            if is_point(base, e, p, key, RecordNo(r)) {
+                return Sighted {
+                    status: Status::Done,
+                    master: m,
+                };
+            }
+            Sighted {
+                status: Status::Ivrp,
+                master: m,
+            }
+        }
+    }
+}
