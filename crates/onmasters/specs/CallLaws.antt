@@ -3,7 +3,6 @@ use Prim.Native.Nat.{ℕ}
 use mathlib.Core.Path.{_≡_, refl, sym, ap, _∙_}
 use mathlib.Core.Bool.{Bool, true, false, cond}
 use mathlib.Core.List.{List}
-use native.Mathlib.Omega.{arith}
 use lib.ListN.{length}
 use Rattle.terms.specs.Terms.{homeOf}
 use Rattle.terms.specs.declared.Status.{Status}
@@ -13,14 +12,14 @@ use Rattle.terms.specs.declared.Operation.the-variants.{AddM, DelM, Readm, Writ
 use Rattle.terms.specs.declared.RecordNo.{RecordNo}
 use Rattle.schema.specs.declared.Entry.{Entry}
 use Rattle.schema.specs.declared.Schema.{Schema}
-use Rattle.schema.specs.Place.{InSet}
 use Rattle.records.specs.Areas.{areaLength}
 use Rattle.plans.specs.declared.Head.{Head}
 use Rattle.plans.specs.declared.Head.the-variants.{Nothing, Body, Master, Variable, Stranger, Synonym}
 use Rattle.plans.specs.declared.Planned.{Planned}
 use Rattle.plans.specs.Plan.{Store, storeAll, sealAll, committed}
-use Rattle.plans.specs.Stores.{wordStores, planStores}
-use Rattle.plans.specs.PlanOk.{PlanOk, AreaOk}
+use Rattle.plans.specs.Stores.{planStores}
+use Rattle.plans.specs.PlanOk.{AreaOk}
+use Rattle.plans.specs.BodyLaws.{BodyPlan, body-stores}
 use Rattle.masters.specs.declared.Found.{Found}
 use Rattle.masters.specs.declared.Found.the-variants.{At, Missing, Damaged}
 use Rattle.masters.specs.Find.{find, homeIn}
@@ -36,7 +35,7 @@ use Rattle.calls.specs.Ladder.{refusal}
 use Rattle.calls.specs.Answer.{firstOf, answered, restTests}
 use Rattle.calls.specs.RestLaws.{storable, rest-readm, rest-writm, rest-addm, rest-delm, rest-rqloc}
 use Rattle.ends.specs.Ends.{Ends, gave, gave-answers, settled, settled-answers}
-use Rattle.onmasters.specs.Masters.{NamedCall, AnswersOn, AnswersIn, BodyAt}
+use Rattle.onmasters.specs.Masters.{NamedCall, AnswersOn, AnswersIn}
 use Rattle.onmasters.specs.MasterLaws.{readm-call, writm-call, delm-call, seek-none, found-is, damage-ends, missing-ends, ends-as, ends-left, add-damage-ends, there-ends, add-ends-as}
 
 -- what the search in the code found is what the search for the key finds
@@ -97,29 +96,16 @@ two-later false false v = refl
 
 -- ---- WRITM
 
-pub body-ok : {p : Planned} (n : ℕ) (e : Entry) (m : ℕ) → BodyAt p m → InSet e m → PlanOk n e (p .plan)
-unfolding wordStores
-body-ok n e m d i =
-    record {
-      few = omega (arith, d .count);
-      head = rw (d .head, d .target) i;
-      words = rw (d .words) tt;
-      wiped = omega (arith, d .wiped);
-    }
-
-pub body-area : {p : Planned} (e : Entry) (area : List ℕ) (m : ℕ) → BodyAt p m → length area ≡ areaLength e → AreaOk (p .plan .head) e area
-body-area e area m d l = rw (d .head) l
-
 module _ (e : Entry) (r : ℕ) (key area b : List ℕ) (m : RecordNo) where
-  writm-settles : (x : Scene) (c : Call) (p : Planned) → BodyAt p (m .0) → x .operation ≡ Writm → x .entry ≡ e → x .found ≡ At m → c .base ≡ b → c .area ≡ area → c .reference ≡ r
+  writm-settles : (x : Scene) (c : Call) (p : Planned) → BodyPlan p (m .0) → x .operation ≡ Writm → x .entry ≡ e → x .found ≡ At m → c .base ≡ b → c .area ≡ area → c .reference ≡ r
       → answered x c (refusal (restTests x c)) ≡ settled (p .status) b (planStores b e area (p .plan)) r r area
-  unfolding given referenceAfter areaAfter storesOf planStores wordStores
+  unfolding given referenceAfter areaAfter storesOf
   writm-settles x c p d o w f hb ha hr =
-      rw (← hb, ← ha, ← hr, ← w, d .status)
+      rw (body-stores e area d b, d .status, ← hb, ← ha, ← hr, ← w)
       (settled-answers x c (refusal (restTests x c)) Done _ (c .reference) (rest-writm x c o)
-      (λ _. rw (o, f, d .head, d .target, d .words, d .wiped) refl) (rw o refl) (rw o refl) (rw o refl))
+      (λ _. rw (o, f) refl) (rw o refl) (rw o refl) (rw o refl))
 
-  pub writm-ends : {p : Planned} {s : Status} {q : ℕ} {after : List ℕ} → find b e key ≡ At m → BodyAt p (m .0)
+  pub writm-ends : {p : Planned} {s : Status} {q : ℕ} {after : List ℕ} → find b e key ≡ At m → BodyPlan p (m .0)
       → Ends (settled (p .status) b (planStores b e area (p .plan)) r r area) s q area after → AnswersOn Writm e r key area b s q area after
   writm-ends {p = p} g d w =
       record {

@@ -1,7 +1,7 @@
 -- Calls on masters: what they have found out when their set is known, and when their master is.
 use Prim.Native.Nat.{ℕ, _≤_, _<_}
 use mathlib.Core.Path.{_≡_}
-use mathlib.Core.Bool.{true, false, not}
+use mathlib.Core.Bool.{true, false}
 use mathlib.Core.List.{List, [], _∷_}
 use lib.ListN.{length}
 use Rattle.terms.specs.declared.Status.{Status}
@@ -15,9 +15,6 @@ use Rattle.schema.specs.Place.{LiesIn}
 use Rattle.schema.specs.Guarantee.{MasterOk}
 use Rattle.areas.specs.AreaLaws.{Fields}
 use Rattle.records.specs.Areas.{areaLength}
-use Rattle.plans.specs.declared.Head.the-variants.{Body}
-use Rattle.plans.specs.declared.Planned.{Planned}
-use Rattle.plans.specs.Stores.{wordsOf}
 use Rattle.calls.specs.Call.{Call, oneOf, masterCalls, variableCalls}
 use Rattle.calls.specs.Scene.{sceneUnder}
 use Rattle.calls.specs.Ladder.{finders}
@@ -80,12 +77,3 @@ pub record AnswersOn (o : Operation) (e : Entry) (r : ℕ) (k a b : List ℕ) (s
 -- the same of every call on set number n of the schema t
 pub record AnswersIn (t : Schema) (n : ℕ) (o : Operation) (e : Entry) (r : ℕ) (k a b : List ℕ) (s : Status) (q : ℕ) (new after : List ℕ) : Type 0 where
   pub told : (c : Call) → Asks c o (c .name) r k a b → OnSet t c n e → Ends (placedOutcome t c) s q new after
-
--- nothing is planned but the area's D bytes into the record m
-pub record BodyAt (p : Planned) (m : ℕ) : Type 0 where
-  pub status : p .status ≡ Done
-  pub head : p .plan .head ≡ Body
-  pub target : p .plan .target .0 ≡ m
-  pub count : p .plan .count ≡ 0
-  pub words : wordsOf (p .plan) ≡ []
-  pub wiped : p .plan .wiped ≡ 0

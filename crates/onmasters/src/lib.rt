@@ -6,10 +6,7 @@ use ends::settle;
 use masters::Found;
 use masters::walk;
 use names::entry_number;
-use plans::Head;
-use plans::Plan;
-use plans::Planned;
-use records::Link;
+use plans::body_plan;
 use roots::add_master;
 use roots::del_master;
 use schema::Entry;
@@ -18,7 +15,6 @@ use schema::layout::entry_of;
 use terms::EntryNo;
 use terms::Key;
 use terms::Operation;
-use terms::RecordNo;
 use terms::Reference;
 use terms::Status;
 ghost use mathlib.Core.Path.{_≡_};
@@ -30,7 +26,7 @@ ghost use Rattle.schema.specs.Decode.{entryOf};
 ghost use Rattle.schema.specs.Guarantee.{MasterOk};
 ghost use Rattle.records.specs.Areas.{areaLength};
 ghost use Rattle.ends.specs.Asks.{Laid};
-ghost use Rattle.onmasters.specs.Masters.{MasterCall, Places, MasterIn, AnswersOn, AnswersIn, BodyAt};
+ghost use Rattle.onmasters.specs.Masters.{MasterCall, Places, MasterIn, AnswersOn, AnswersIn};
 
 // The set that a call on masters speaks of, where the status is Done.
 pub struct Placed {
@@ -92,16 +88,6 @@ pub fn readm(e: Entry, reference: Reference, key: &[u8], area: &mut [u8], base: 
         Found::Missing => ended(Status::Mrnf, reference),
         Found::At(m) => give(base, e, m.0, area),
     }
-}
-
-// The D bytes of the area go into the record m.
-fn body_plan(m: RecordNo) -> Planned
-    ensures { λ p. ⌜ BodyAt p (m .0) ⌝ }
-{
-    let links = [Link { prior: 0, next: 0 }; 4];
-    let status = Status::Done;
-    let plan = Plan::of(Head::Body, m, m, links);
-    Planned { status, plan }
 }
 
 // WRITM: "WRITM and WRITV replace the D bytes." .. "ADD-M, DEL-M, WRITM .. return the reference given."

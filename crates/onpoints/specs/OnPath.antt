@@ -20,9 +20,6 @@ use Rattle.schema.specs.Place.{InSet}
 use Rattle.records.specs.Records.{firstOn, lastOn, priorOn, nextOn}
 use Rattle.records.specs.Areas.{areaLength, areaKeyOn}
 use Rattle.areas.specs.AreaLaws.{Fields}
-use Rattle.plans.specs.declared.Head.the-variants.{Body}
-use Rattle.plans.specs.declared.Planned.{Planned}
-use Rattle.plans.specs.Stores.{wordsOf}
 use Rattle.masters.specs.declared.Found.the-variants.{At}
 use Rattle.masters.specs.Find.{find, isMissing, isDamaged}
 use Rattle.chains.specs.declared.Spot.{Spot}
@@ -160,15 +157,6 @@ pub record Spotted (spot : Spot) (e : Entry) (p : Path) (r : ℕ) (looks : Bool)
   pub in-set : SpotOk spot e
   pub look : looks ≡ looksAt (addAt spot) p r
   pub looked : looks ≡ true → InSet e r
-
--- WRITV's plan: the area's D bytes go into the record r, and nothing else
-pub record BodyPlan (r : ℕ) (q : Planned) : Type 0 where
-  pub status : q .status ≡ Done
-  pub head : q .plan .head ≡ Body
-  pub target : q .plan .target .0 ≡ r
-  pub count : q .plan .count ≡ 0
-  pub words : wordsOf (q .plan) ≡ []
-  pub wiped : q .plan .wiped ≡ 0
 
 -- ---- how a call ends
 

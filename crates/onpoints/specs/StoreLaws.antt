@@ -4,7 +4,6 @@ use mathlib.Core.Path.{_≡_, refl, sym, ap, _∙_}
 use mathlib.Core.Bool.{Bool, true, false, cond}
 use mathlib.Core.List.{List, [], _∷_}
 use native.Mathlib.Omega.{arith}
-use lib.ListN.{length}
 use borrow.Author.Tests.{eqb-true}
 use Rattle.octets.specs.BelowLaws.{never-both}
 use Rattle.terms.specs.declared.Status.{Status}
@@ -19,11 +18,11 @@ use Rattle.schema.specs.declared.Schema.{Schema}
 use Rattle.schema.specs.Decode.{pathOf}
 use Rattle.schema.specs.Place.{InSet}
 use Rattle.records.specs.Records.{keyOn, priorOn}
-use Rattle.records.specs.Areas.{areaLength, areaBody, areaKeyOn}
+use Rattle.records.specs.Areas.{areaBody, areaKeyOn}
 use Rattle.plans.specs.declared.Planned.{Planned}
 use Rattle.plans.specs.Plan.{Store, storeRun}
-use Rattle.plans.specs.PlanOk.{PlanOk, AreaOk}
-use Rattle.plans.specs.Stores.{planStores, wordStores}
+use Rattle.plans.specs.Stores.{planStores}
+use Rattle.plans.specs.BodyLaws.{BodyPlan, body-stores}
 use Rattle.masters.specs.declared.Found.the-variants.{At}
 use Rattle.masters.specs.Find.{lowestFree}
 use Rattle.chains.specs.declared.Spot.{Spot}
@@ -39,7 +38,7 @@ use Rattle.calls.specs.Answer.{firstOf, answered, restTests}
 use Rattle.calls.specs.RestLaws.{storable, rest-writv}
 use Rattle.ends.specs.Ends.{Ends, isDone, settled, settled-answers}
 use Rattle.ends.specs.Asks.{Asks}
-use Rattle.onpoints.specs.OnPath.{PointCall, addAt, OnPath, ReachedIn, Seen, Spotted, BodyPlan, AnswersOnPath, AnswersUnder}
+use Rattle.onpoints.specs.OnPath.{PointCall, addAt, OnPath, ReachedIn, Seen, Spotted, AnswersOnPath, AnswersUnder}
 use Rattle.onpoints.specs.PathLaws.{writv-call, addvc-call, addvb-call, addva-call, delvd-call}
 use Rattle.onpoints.specs.SeekLaws.{seen-key, ends-as, rest-refuses}
 use Rattle.onpoints.specs.OtherLaws.{addable, deletable, rest-addvc, rest-addvb, rest-addva, rest-delvd}
@@ -61,18 +60,6 @@ settled-as y c s u xs after e w g a f = go (isDone u) refl
         settled-answers y c s u xs (referenceAfter y c) e w refl a f ∙ any-after u (c .base) xs (referenceAfter y c) after (c .reference) (c .area) d
 
 -- ---- WRITV
-
-module _ (e : Entry) (r : ℕ) (q : Planned) (h : BodyPlan r q) where
-  body-stores : (b area : List ℕ) → planStores b e area (q .plan) ≡ storeRun e r (e .body) (areaBody e area) ∷ []
-  unfolding planStores wordStores
-  body-stores b area = rw (h .head, h .target, h .words, h .wiped) refl
-
-  pub body-ok : (n : ℕ) (area : List ℕ) → InSet e r → length area ≡ areaLength e → PlanOk n e (q .plan) × AreaOk (q .plan .head) e area
-  unfolding wordStores
-  body-ok n area i l = (
-    record { few = rw (h .count) (omega arith); head = rw (h .head, h .target) i; words = rw (h .words) tt; wiped = rw (h .wiped) (omega arith) },
-    rw (h .head) l,
-  )
 
 writv-same : (y : Scene) (c : Call) → y .operation ≡ Writv → areaAfter y c ≡ c .area
 unfolding areaAfter given
@@ -105,13 +92,13 @@ module _ (e : Entry) (on : ℕ) (p : Path) (x : Entry) (r : ℕ) (key area b : L
   writv-refused d =
       record { told = λ t c i h at. rest-refuses t c i Writv e on p x r key area b writv-call h at Keys (g .status) (writv-rest t c i h at ∙ (rw d refl)) (omega arith) }
 
-  pub writv-ends : {s : Status} {k : ℕ} {new : List ℕ} (q : Planned) → otherStoredKey b e r area ≡ false → BodyPlan r q
+  pub writv-ends : {s : Status} {k : ℕ} {new : List ℕ} (q : Planned) → otherStoredKey b e r area ≡ false → BodyPlan q r
       → Ends (settled (q .status) b (planStores b e area (q .plan)) r r area) s k area new → AnswersOnPath Writv e on p x r key area b s k area new
   writv-ends q d f v =
       record {
         told = λ t c i h at.
             ends-as t c i Writv e on p x r key area b writv-call h at _ (g .status) (written t c i h at d)
-            (rw (f .status, body-stores e r q f b area) at v);
+            (rw (f .status, body-stores e area f b) at v);
       }
 
 -- ---- the adds

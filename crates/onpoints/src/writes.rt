@@ -5,10 +5,7 @@ use chains::Spot;
 use ends::Answer;
 use ends::ended;
 use ends::settle;
-use plans::Head;
-use plans::Plan;
-use plans::Planned;
-use records::Link;
+use plans::body_plan;
 use records::fields::prior_on;
 use schema::Entry;
 use schema::Path;
@@ -23,19 +20,7 @@ ghost use Rattle.terms.specs.declared.Operation.the-variants.{Writv, Addvc, Add
 ghost use Rattle.schema.specs.Place.{InSet};
 ghost use Rattle.records.specs.Areas.{areaLength, areaKeyOn};
 ghost use Rattle.calls.specs.Reply.{orLink};
-ghost use Rattle.onpoints.specs.OnPath.{Reached, ReachedIn, addAt, Spotted, BodyPlan, AnswersOnPath, AnswersUnder};
-
-// The area's D bytes go into the record.
-fn body_plan(r: RecordNo) -> Planned
-    ensures { λ q. ⌜ BodyPlan (r .0) q ⌝ }
-{
-    let none = [Link { prior: 0, next: 0 }; 4];
-    let plan = Plan::of(Head::Body, r, RecordNo(0), none);
-    Planned {
-        status: Status::Done,
-        plan,
-    }
-}
+ghost use Rattle.onpoints.specs.OnPath.{Reached, ReachedIn, addAt, Spotted, AnswersOnPath, AnswersUnder};
 
 // WRITV: "WRITM and WRITV replace the D bytes."
 pub fn writv(

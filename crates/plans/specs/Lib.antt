@@ -1,3 +1,4 @@
+pub mod BodyLaws
 pub mod FitLaws
 pub mod Plan
 pub mod PlanLaws

@@ -6,6 +6,7 @@ ghost use mathlib.Core.Path.{_≡_};
 ghost use mathlib.Core.List.{_++_, _∷_, []};
 ghost use Prim.Native.Nat.{_+_, _<_};
 ghost use Rattle.plans.specs.Stores.{wordsOf};
+ghost use Rattle.plans.specs.BodyLaws.{BodyPlan};
 
 // A linkage field's place in the data base, and what it becomes.
 pub struct Word {
@@ -84,5 +85,17 @@ impl Plan {
         let mut p = self;
         p.wiped = r.0;
         p
+    }
+}
+
+// WRITM's and WRITV's plan: the D bytes of the area go into the record r.
+pub fn body_plan(r: RecordNo) -> Planned
+    ensures { λ q. ⌜ BodyPlan q (r .0) ⌝ }
+{
+    let none = [Link { prior: 0, next: 0 }; 4];
+    let plan = Plan::of(Head::Body, r, RecordNo(0), none);
+    Planned {
+        status: Status::Done,
+        plan,
     }
 }

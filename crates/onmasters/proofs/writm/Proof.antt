@@ -1,9 +1,10 @@
 use mathlib.Core.Path.{sym, _∙_}
 use borrow.Author.Needs.{needs}
+use Rattle.plans.specs.BodyLaws.{body-ok}
 use Rattle.masters.specs.declared.Found.the-variants.{At, Missing, Damaged}
 use Rattle.masters.specs.FindLaws.{find-at}
 use Rattle.onmasters.specs.MasterLaws.{writm-call}
-use Rattle.onmasters.specs.CallLaws.{told-found, by-damage, by-absence, body-ok, body-area, writm-ends}
+use Rattle.onmasters.specs.CallLaws.{told-found, by-damage, by-absence, writm-ends}
 use Rattle.onmasters.proofs.writm.Statement.{statement}
 use Rattle.onmasters.proofs.writm.Tie as tie
 
@@ -37,7 +38,7 @@ settle-requires c κs =
     let p = f .before .before .before .before .before .before .pre in
     let d = c .body-plan .ensures in
     let h = find-at _ _ _ _ (sym (f .find .ensures .0) ∙ c .before .before .before .found .given .1) .in-set in
-    (p .0 .lies, (p .0 .fields, λ _. (body-ok _ _ _ d h, body-area _ _ _ d (p .1 .1))))
+    (p .0 .lies, (p .0 .fields, λ _. body-ok _ _ d _ h (p .1 .1)))
 
 same-length : tie.Need-same-length
 same-length c = search needs

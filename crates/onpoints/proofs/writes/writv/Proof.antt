@@ -1,7 +1,8 @@
 use mathlib.Core.Path.{refl, sym, _∙_}
+use Rattle.plans.specs.BodyLaws.{body-ok}
 use Rattle.onpoints.specs.PathLaws.{writv-call, no-master}
 use Rattle.onpoints.specs.SeekLaws.{seen, by-seek}
-use Rattle.onpoints.specs.StoreLaws.{body-ok, writv-refused, writv-ends}
+use Rattle.onpoints.specs.StoreLaws.{writv-refused, writv-ends}
 use borrow.Author.Needs.{needs}
 use Rattle.onpoints.proofs.writes.writv.Statement.{statement}
 use Rattle.onpoints.proofs.writes.writv.Tie as tie
@@ -48,7 +49,7 @@ body-plan-requires c κs = search needs
 settle-requires : tie.Need-settle-requires
 settle-requires c κs =
     let s = c .before .before .before .before .before .before .before .before .before .before .before .before .before in
-    (s .pre .0 .points .lies, (s .pre .0 .fields, λ d. body-ok _ _ _ (c .before .body-plan .ensures) _ _ (s .pre .1 .1 .1) (s .pre .1 .1 .0)))
+    (s .pre .0 .points .lies, (s .pre .0 .fields, λ d. body-ok _ _ (c .before .body-plan .ensures) _ (s .pre .1 .1 .1) (s .pre .1 .1 .0)))
 
 same-length-3 : tie.Need-same-length-3
 same-length-3 c = search needs
