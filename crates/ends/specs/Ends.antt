@@ -104,13 +104,15 @@ module _ (x : Scene) (c : Call) where
   unfolding answered settled
   in-refusal s u xs after e d = rw (e, d, d) refl
 
-  -- a call that stores: u is what its tests came to but for the last, xs what it stores, `after` the reference it returns
-  pub settled-answers : (s u : Status) (xs : List Store) (after : ℕ) → s ≡ firstOf u (storable x c) → (u ≡ Done → storesOf x c ≡ xs) → referenceAfter x c ≡ after → areaAfter x c ≡ c .area
-      → oneOf (x .operation) (Formt ∷ []) ≡ false → answered x c s ≡ settled u (c .base) xs after (c .reference) (c .area)
+  -- a call that stores: u is what its tests came to but for the last, xs what it stores, `after` the reference it returns; both count only
+  -- where the call is done
+  pub settled-answers : (s u : Status) (xs : List Store) (after : ℕ) → s ≡ firstOf u (storable x c) → (u ≡ Done → storesOf x c ≡ xs)
+      → (u ≡ Done → referenceAfter x c ≡ after) → areaAfter x c ≡ c .area → oneOf (x .operation) (Formt ∷ []) ≡ false
+      → answered x c s ≡ settled u (c .base) xs after (c .reference) (c .area)
   settled-answers s u xs after e w h a f = go (isDone u) refl
     where
       go : (d : Bool) → isDone u ≡ d → answered x c s ≡ settled u (c .base) xs after (c .reference) (c .area)
       go false d = in-refusal s u xs after e d
       go true d =
           let u-done : u ≡ Done = status-number-one u Done (eqb-true (statusNumber u) 0 d) in
-          rw u-done (in-done s xs after (rw u-done at e) (w u-done) h a f)
+          rw u-done (in-done s xs after (rw u-done at e) (w u-done) (h u-done) a f)

@@ -103,7 +103,7 @@ module _ (e : Entry) (r : ℕ) (key area b : List ℕ) (m : RecordNo) where
   writm-settles x c p d o w f hb ha hr =
       rw (body-stores e area d b, d .status, ← hb, ← ha, ← hr, ← w)
       (settled-answers x c (refusal (restTests x c)) Done _ (c .reference) (rest-writm x c o)
-      (λ _. rw (o, f) refl) (rw o refl) (rw o refl) (rw o refl))
+      (λ _. rw (o, f) refl) (λ _. rw o refl) (rw o refl) (rw o refl))
 
   pub writm-ends : {p : Planned} {s : Status} {q : ℕ} {after : List ℕ} → find b e key ≡ At m → BodyPlan p (m .0)
       → Ends (settled (p .status) b (planStores b e area (p .plan)) r r area) s q area after → AnswersOn Writm e r key area b s q area after
@@ -133,7 +133,7 @@ module _ (e : Entry) (r : ℕ) (key area b : List ℕ) where
       (settled-answers x c (refusal (restTests x c)) u xs (c .reference)
       (rest-addm x c o ∙ two-first (addMasterFull (c .base) (x .entry) (homeOfKey x c)) (addMasterDamaged (c .base) (x .entry) (homeOfKey x c)) (storable x c)
       ∙ ap (λ v. firstOf v (storable x c)) (sym v))
-      (λ d. rw (o, w, m, hk, hb, ha) (sym (ws d))) (rw o refl) (rw o refl) (rw o refl))
+      (λ d. rw (o, w, m, hk, hb, ha) (sym (ws d))) (λ _. rw o refl) (rw o refl) (rw o refl))
 
   pub addm-ends : (p : Planned) {home : ℕ} {s : Status} {q : ℕ} {after : List ℕ} → find b e key ≡ Missing → home ≡ homeIn e key → p .status ≡ addMasterStatus b e home
       → (p .status ≡ Done → planStores b e area (p .plan) ≡ addMasterStores b e home area)
@@ -167,7 +167,7 @@ module _ (t : Schema) (n : ℕ) (e : Entry) (r : ℕ) (key area b : List ℕ) wh
       (rest-delm x c o
       ∙ two-later (hasPoints (x .schema) (c .base) (x .number) (masterIn x)) (delMasterDamaged (c .base) (x .entry) (homeOfKey x c) (masterIn x)) (storable x c)
       ∙ ap (λ v. firstOf v (storable x c)) (sym v))
-      (λ d. rw (o, w, ms, f, hk, hb) (sym (ws d))) (rw o refl) (rw o refl) (rw o refl))
+      (λ d. rw (o, w, ms, f, hk, hb) (sym (ws d))) (λ _. rw o refl) (rw o refl) (rw o refl))
 
   pub delm-ends : (p : Planned) (m : RecordNo) {home : ℕ} {s : Status} {q : ℕ} {after : List ℕ} → find b e key ≡ At m → home ≡ homeIn e key
       → p .status ≡ delMasterStatus t b n e home (m .0) → (p .status ≡ Done → planStores b e area (p .plan) ≡ delMasterStores b e home (m .0))

@@ -4,14 +4,11 @@ use mathlib.Core.Path.{_≡_, refl, sym, ap, _∙_}
 use mathlib.Core.Bool.{Bool, true, false, cond}
 use mathlib.Core.List.{List, [], _∷_}
 use native.Mathlib.Omega.{arith}
-use borrow.Author.Tests.{eqb-true}
 use Rattle.octets.specs.BelowLaws.{never-both}
 use Rattle.terms.specs.declared.Status.{Status}
 use Rattle.terms.specs.declared.Status.the-variants.{Done, Keys}
 use Rattle.terms.specs.declared.Operation.the-variants.{Formt, Writv, Delvd}
 use Rattle.terms.specs.declared.RecordNo.{RecordNo}
-use Rattle.terms.specs.Status.{statusNumber}
-use Rattle.terms.specs.Laws.{status-number-one}
 use Rattle.schema.specs.declared.Path.{Path}
 use Rattle.schema.specs.declared.Entry.{Entry}
 use Rattle.schema.specs.declared.Schema.{Schema}
@@ -36,28 +33,12 @@ use Rattle.calls.specs.Reply.{spotOf, orLink, given, referenceAfter, areaAfter,
 use Rattle.calls.specs.Ladder.{refusal, otherStoredKey}
 use Rattle.calls.specs.Answer.{firstOf, answered, restTests}
 use Rattle.calls.specs.RestLaws.{storable, rest-writv}
-use Rattle.ends.specs.Ends.{Ends, isDone, settled, settled-answers}
+use Rattle.ends.specs.Ends.{Ends, settled, settled-answers}
 use Rattle.ends.specs.Asks.{Asks}
 use Rattle.onpoints.specs.OnPath.{PointCall, addAt, OnPath, ReachedIn, Seen, Spotted, AnswersOnPath, AnswersUnder}
 use Rattle.onpoints.specs.PathLaws.{writv-call, addvc-call, addvb-call, addva-call, delvd-call}
 use Rattle.onpoints.specs.SeekLaws.{seen-key, ends-as, rest-refuses}
 use Rattle.onpoints.specs.OtherLaws.{addable, deletable, rest-addvc, rest-addvb, rest-addva, rest-delvd}
-
--- ---- the reference that is returned counts only where the call is done
-
-any-after : (u : Status) (b : List ℕ) (xs : List Store) (i j r : ℕ) (area : List ℕ) → isDone u ≡ false → settled u b xs i r area ≡ settled u b xs j r area
-unfolding settled
-any-after u b xs i j r area d = rw d refl
-
-settled-as : (y : Scene) (c : Call) (s u : Status) (xs : List Store) (after : ℕ) → s ≡ firstOf u (storable y c) → (u ≡ Done → storesOf y c ≡ xs)
-    → (u ≡ Done → referenceAfter y c ≡ after) → areaAfter y c ≡ c .area → oneOf (y .operation) (Formt ∷ []) ≡ false
-    → answered y c s ≡ settled u (c .base) xs after (c .reference) (c .area)
-settled-as y c s u xs after e w g a f = go (isDone u) refl
-  where
-    go : (d : Bool) → isDone u ≡ d → answered y c s ≡ settled u (c .base) xs after (c .reference) (c .area)
-    go true d = settled-answers y c s u xs after e w (g (status-number-one u Done (eqb-true (statusNumber u) 0 d))) a f
-    go false d =
-        settled-answers y c s u xs (referenceAfter y c) e w refl a f ∙ any-after u (c .base) xs (referenceAfter y c) after (c .reference) (c .area) d
 
 -- ---- WRITV
 
@@ -86,7 +67,7 @@ module _ (e : Entry) (on : ℕ) (p : Path) (x : Entry) (r : ℕ) (key area b : L
     written d =
         rw (← h .base, ← h .reference, ← h .area, ← at .entry)
         (settled-answers (sceneUnder t c) c _ Done _ (c .reference) (writv-rest ∙ (rw d refl)) (λ z. writv-stores (sceneUnder t c) c is-writv)
-        (writv-after (sceneUnder t c) c is-writv) (writv-same (sceneUnder t c) c is-writv) (rw is-writv refl))
+        (λ z. writv-after (sceneUnder t c) c is-writv) (writv-same (sceneUnder t c) c is-writv) (rw is-writv refl))
 
   pub writv-refused : otherStoredKey b e r area ≡ true → AnswersOnPath Writv e on p x r key area b Keys r area b
   writv-refused d =
@@ -175,7 +156,7 @@ module _ (t : Schema) (e : Entry) (on : ℕ) (p : Path) (x : Entry) (r : ℕ) (k
     added : answered (sceneUnder t c) c (refusal (restTests (sceneUnder t c) c)) ≡ settled u b xs after r area
     added =
         rw (← h .base, ← h .reference, ← h .area)
-        (settled-as (sceneUnder t c) c _ u xs after (add-rest (sceneUnder t c) c spot is-add ∙ ap (λ (z : Status). firstOf z (storable (sceneUnder t c) c)) add-status)
+        (settled-answers (sceneUnder t c) c _ u xs after (add-rest (sceneUnder t c) c spot is-add ∙ ap (λ (z : Status). firstOf z (storable (sceneUnder t c) c)) add-status)
         stored returned (add-same (sceneUnder t c) c spot is-add) (add-plain (sceneUnder t c) c spot is-add))
 
   pub add-ends : {s : Status} {q : ℕ} {new : List ℕ} → Ends (settled u b xs after r area) s q area new → AnswersUnder t (addAt spot) e on p x r key area b s q area new
@@ -220,7 +201,7 @@ module _ (t : Schema) (e : Entry) (on : ℕ) (p : Path) (x : Entry) (r : ℕ) (k
     deleted : answered (sceneUnder t c) c (refusal (restTests (sceneUnder t c) c)) ≡ settled u b xs after r area
     deleted =
         rw (← h .base, ← h .reference, ← h .area)
-        (settled-as (sceneUnder t c) c _ u xs after (rest-delvd (sceneUnder t c) c is-delvd ∙ ap (λ (z : Status). firstOf z (storable (sceneUnder t c) c)) del-status)
+        (settled-answers (sceneUnder t c) c _ u xs after (rest-delvd (sceneUnder t c) c is-delvd ∙ ap (λ (z : Status). firstOf z (storable (sceneUnder t c) c)) del-status)
         unlinked (λ d. before) (delvd-same (sceneUnder t c) c is-delvd) (rw is-delvd refl))
 
   pub delvd-ends : {s : Status} {q : ℕ} {new : List ℕ} → Ends (settled u b xs after r area) s q area new → AnswersUnder t Delvd e on p x r key area b s q area new
