@@ -5,6 +5,8 @@ use ends::Answer;
 use ends::ended;
 use ends::give;
 use points::damage::bad_neighbour;
+use points::damage::uneven_ends;
+use points::search::first_place;
 use records::fields::first_on;
 use records::fields::last_on;
 use records::fields::next_on;
@@ -24,8 +26,7 @@ ghost use Rattle.terms.specs.Terms.{keyOf};
 ghost use Rattle.terms.specs.declared.Operation.the-variants.{Readd};
 ghost use Rattle.schema.specs.Place.{InSet};
 ghost use Rattle.records.specs.Areas.{areaLength};
-ghost use Rattle.chains.specs.Chains.{unevenEnds, readDamaged};
-ghost use Rattle.points.specs.VariableIn.{MastersIn};
+ghost use Rattle.chains.specs.Chains.{readDamaged};
 ghost use Rattle.calls.specs.Reply.{linkOf};
 ghost use Rattle.onpoints.specs.OnPath.{Reached, Seen, readBy, pointerOn, AnswersOnPath};
 
@@ -53,17 +54,6 @@ pub fn readd(
         return ended(status, reference);
     }
     give(base, e, reference.0, area)
-}
-
-// "first and last are one 0 and one not"
-fn uneven_ends(base: &[u8], x: Entry, m: RecordNo, p: Path) -> bool
-    requires { ⌜ MastersIn x p (length (now base)) ⌝ }
-    requires { ⌜ InSet x (m .0) ⌝ }
-    ensures { λ u. ⌜ u ≡ unevenEnds (now (base .entry)) x (m .0) p ⌝ }
-{
-    let none_first = first_on(base, x, m, p) == 0;
-    let none_last = last_on(base, x, m, p) == 0;
-    none_first ^ none_last
 }
 
 // The pointer that a read uses: "READV first or next, READR last or prior", the first of each with LKxx.
@@ -110,7 +100,8 @@ fn read_damaged(
     requires { ⌜ key .len ≡ x .key ⌝ }
     ensures { λ d. ⌜ d ≡ readDamaged (now (base .entry)) e p x (m .0) (keyOf key) linked n ⌝ }
 {
-    let uneven = uneven_ends(base, x, m, p);
+    let first = first_place(x, p, m);
+    let uneven = uneven_ends(base, first);
     let bad = bad_neighbour(base, e, p, key, n);
     (linked & uneven) | bad
 }

@@ -1,4 +1,5 @@
--- The final 16, as the code asks it: a neighbour pointer by the tests made on it, and the paths one after the other.
+-- The final 16, as the code asks it: first and last by the place of first, a neighbour pointer by the tests made on it, and the paths one after
+-- the other.
 use Prim.Native.Nat.{ℕ, _+_, _≤_, _<_}
 use mathlib.Core.Path.{_≡_, refl, sym, ap}
 use mathlib.Core.Logic.{⊎-elim}
@@ -8,7 +9,7 @@ use native.Mathlib.Omega.{arith}
 use borrow.Author.Tests.{eq-eqb, ne-eqb, le-leb, lt-leb, not-false}
 use lib.ListN.{getD, take}
 use lib.Seq.{getD-take}
-use Rattle.octets.specs.Octets.{sameBytes, run}
+use Rattle.octets.specs.Octets.{sameBytes, run, wordAt}
 use Rattle.octets.specs.Below.{allBelow}
 use Rattle.octets.specs.BelowLaws.{allBelow-at, allBelow-fails, allBelow-same}
 use Rattle.octets.specs.RunLaws.{sameBytes-comm}
@@ -16,13 +17,28 @@ use Rattle.schema.specs.declared.Path.{Path}
 use Rattle.schema.specs.declared.Entry.{Entry}
 use Rattle.schema.specs.Decode.{pathOf}
 use Rattle.schema.specs.Place.{InSet, placeOf}
+use Rattle.schema.specs.PlaceLaws.{place-inside}
 use Rattle.records.specs.declared.Link.{Link}
-use Rattle.records.specs.Records.{isLive, keyOn}
+use Rattle.records.specs.Records.{isLive, keyOn, lastOn}
 use Rattle.records.specs.Areas.{noLink}
-use Rattle.chains.specs.Chains.{badNeighbour}
+use Rattle.chains.specs.Chains.{badNeighbour, unevenEnds}
 use Rattle.chains.specs.SideLaws.{neighbour-ok}
 use Rattle.points.specs.Paths.{keyAt, unevenAt, damagedAt, cleanAt, damaged}
-use Rattle.points.specs.VariableIn.{LinksIn}
+use Rattle.points.specs.VariableIn.{MastersIn, LinksIn}
+
+-- ---- first and last, where f is the place of first
+
+module _ {f : ℕ} (x : Entry) (p : Path) (m : ℕ) (h : f ≡ placeOf x m + p .link) where
+  -- last follows first
+  pub last-from : (b : List ℕ) → wordAt b (f + 4) ≡ lastOn b x m p
+  last-from b = let q : f + 4 ≡ placeOf x m + (p .link + 4) = omega arith in ap (wordAt b) q
+
+  pub uneven-from : (b : List ℕ) → unevenAt b f ≡ unevenEnds b x m p
+  uneven-from b = let q = ap (wordAt b) h in rw (last-from b, q)
+
+  -- both lie in the base
+  pub ends-inside : {n : ℕ} → MastersIn x p n → InSet x m → f + 8 ≤ n
+  ends-inside s i = omega (arith, h, place-inside m (s .lies) i, s .link)
 
 -- ---- one neighbour
 

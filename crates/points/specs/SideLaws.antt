@@ -30,12 +30,13 @@ use Rattle.plans.specs.FitLaws.{run-fits}
 use Rattle.plans.specs.Stores.{wordStore, wordStores}
 use Rattle.masters.specs.declared.Found.the-variants.{At}
 use Rattle.masters.specs.FindLaws.{find-at}
-use Rattle.chains.specs.Chains.{unevenEnds, priorSide, nextSide}
+use Rattle.chains.specs.Chains.{priorSide, nextSide}
 use Rattle.chains.specs.Points.{mastersOn, findOn, masterOn, damagedOn}
 use Rattle.points.specs.Rest.{isDone, otherMasters}
-use Rattle.points.specs.Paths.{firstOf, keyAt, unevenAt, cleanAt, damaged, sideWords, wordsOn, wordsBelow}
+use Rattle.points.specs.Paths.{firstOf, keyAt, cleanAt, damaged, sideWords, wordsOn, wordsBelow}
 use Rattle.points.specs.VariableIn.{VariableIn, EndsIn, LinkIn}
 use Rattle.points.specs.PathLaws.{Held, others-held, filled-at}
+use Rattle.points.specs.DamageLaws.{last-from, uneven-from, ends-inside}
 
 -- ---- stores made path by path
 
@@ -126,20 +127,10 @@ module _ (b : List ℕ) (t : Schema) (e : Entry) (key : ℕ → List ℕ) (ends 
 
   -- first and last lie in the base
   pub ends-in : EndsIn e ends (length b)
-  ends-in =
-      record {
-        inside = λ k l.
-            let s = known .set .masters k l in
-            omega (arith, first-is k l, place-inside (m k) (s .lies) (master-in k l), s .link);
-      }
+  ends-in = record { inside = λ k l. ends-inside (x k) (pathOf e k) (m k) (first-is k l) (known .set .masters k l) (master-in k l) }
 
   pub last-is : (k : ℕ) → k < e .count → wordAt b (getD ends k 0 + 4) ≡ lastOn b (mastersOn t e k) (masterOn b t e k (key k)) (pathOf e k)
-  last-is k l =
-      let q : getD ends k 0 + 4 ≡ placeOf (x k) (m k) + (pathOf e k .link + 4) = omega (arith, first-is k l) in
-      ap (wordAt b) q
-
-  uneven-is : (k : ℕ) → k < e .count → unevenAt b (getD ends k 0) ≡ unevenEnds b (x k) (m k) (pathOf e k)
-  uneven-is k l = let q = ap (wordAt b) (first-is k l) in rw (last-is k l, q)
+  last-is k l = last-from (x k) (pathOf e k) (m k) (first-is k l) b
 
   -- the final 16
   pub damaged-is : (src at : List ℕ) (links : List Link) (f : ℕ → Link) → ((k : ℕ) → k < e .count → keyAt src e at k ≡ key k)
@@ -148,7 +139,7 @@ module _ (b : List ℕ) (t : Schema) (e : Entry) (key : ℕ → List ℕ) (ends 
   damaged-is src at links f p q =
       ap not
       (allBelow-same (cleanAt b e src at ends links) (λ k. not (damagedOn b t e k (key k) (f k))) (e .count)
-      (λ k l. rw (p k l, q k l, uneven-is k l)))
+      (λ k l. rw (p k l, q k l, uneven-from (x k) (pathOf e k) (m k) (first-is k l) b)))
 
   -- the stores
   pub sides-are : (links values : List Link) (f g : ℕ → Link) → ((k : ℕ) → k < e .count → getD links k noLink ≡ f k) → ((k : ℕ) → k < e .count → getD values k noLink ≡ g k)

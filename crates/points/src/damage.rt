@@ -39,7 +39,7 @@ pub fn bad_neighbour(base: &[u8], e: Entry, p: Path, key: Key, n: u32) -> bool
 }
 
 // "first and last are one 0 and one not": first stands at `first`.
-fn uneven_ends(base: &[u8], first: usize) -> bool
+pub fn uneven_ends(base: &[u8], first: usize) -> bool
     requires { ⌜ first + 8 ≤ length (now base) ⌝ }
     ensures { λ uneven. ⌜ uneven ≡ unevenAt (now (base .entry)) first ⌝ }
 {

@@ -68,7 +68,7 @@ pub fn record_places(e: Entry, r: RecordNo) -> [usize; 4]
 }
 
 // The place of first of path p in the record m of its masters x.
-fn first_place(x: Entry, p: Path, m: RecordNo) -> usize
+pub fn first_place(x: Entry, p: Path, m: RecordNo) -> usize
     requires { ⌜ InSet x (m .0) ⌝ }
     requires { ⌜ LiesIn x 2097152 ⌝ }
     ensures { λ f. ⌜ f ≡ placeOf x (m .0) + p .link ⌝ }
