@@ -3,7 +3,6 @@
 use Prim.Native.Nat.{ℕ, _*_, _<_}
 use mathlib.Core.Path.{_≡_}
 use mathlib.Core.List.{List}
-use lib.ListN.{length}
 use Rattle.terms.specs.declared.Status.{Status}
 use Rattle.terms.specs.declared.Operation.{Operation}
 use Rattle.terms.specs.Operation.{operationOf}

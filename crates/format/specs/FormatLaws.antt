@@ -1,14 +1,14 @@
 -- Zeros over a whole buffer, the turns of the loop that sets the checks, and the check of a block of zeros.
-use Prim.Native.Nat.{ℕ, zero, suc, _+_, _*_, _-_, _%_, _≤_, _<_}
+use Prim.Native.Nat.{ℕ, zero, suc, _+_, _*_, _%_, _≤_, _<_}
 use mathlib.Core.Path.{_≡_, refl, ap, _∙_}
-use mathlib.Core.List.{List, _∷_, append-nil}
+use mathlib.Core.List.{List, append-nil}
 use native.Mathlib.Omega.{arith}
 use native.Mathlib.Nat.{mod-eq-of-lt}
 use native.Mathlib.Numerals.{add-one}
-use lib.ListN.{length, take, drop, length-replicate}
+use lib.ListN.{length, length-replicate}
 use lib.Seq.{drop-length}
 use Rattle.octets.specs.Octets.{run, splice, word4, setWord, zeros, sumOnto}
-use Rattle.octets.specs.SpliceLaws.{splice-eq}
+use Rattle.octets.specs.SpliceLaws.{splice-eq, run-zeros}
 use Rattle.blocks.specs.Blocks.{blockAt, checkOf, seal}
 use Rattle.blocks.specs.Laws.{run-seal}
 use Rattle.plans.specs.Plan.{sealBelow, formatted}
@@ -39,19 +39,6 @@ seals-end b x n i e h p q = let j : i ≡ n = omega arith in h ∙ rw (j, e) ref
 
 -- ---- the check of a block of zeros is the block's number
 
-drop-zeros : (a n m : ℕ) → n ≡ a + m → drop a (zeros n) ≡ zeros m
-drop-zeros zero n m h = let e : n ≡ m = omega arith in ap zeros e
-drop-zeros (suc a) zero m h = absurd (omega arith)
-drop-zeros (suc a) (suc n) m h = drop-zeros a n m (omega arith)
-
-take-zeros : (m n : ℕ) → m ≤ n → take m (zeros n) ≡ zeros m
-take-zeros zero n h = refl
-take-zeros (suc m) zero h = absurd (omega arith)
-take-zeros (suc m) (suc n) h = ap (λ (xs : List ℕ). 0 ∷ xs) (take-zeros m n (omega arith))
-
-run-zeros : (n a m : ℕ) → a + m ≤ n → run (zeros n) a m ≡ zeros m
-run-zeros n a m h = rw (drop-zeros a n (n - a) (omega arith)) (take-zeros m (n - a) (omega arith))
-
 lower : (a : ℕ) → a < 4294967296 → a % 4294967296 ≡ a
 lower a h = mod-eq-of-lt h
 
@@ -69,7 +56,7 @@ sum-zeros (suc k) (suc (suc (suc (suc n)))) acc e h =
 
 zero-check : (n : ℕ) → n < 4294967296 → checkOf (zeros 512) n ≡ n
 unfolding checkOf
-zero-check n h = ap (sumOnto n) (take-zeros 508 512 (omega arith)) ∙ sum-zeros 127 508 n refl h
+zero-check n h = ap (sumOnto n) (run-zeros 512 0 508 (omega arith)) ∙ sum-zeros 127 508 n refl h
 
 -- so it is stored as it is
 pub zero-seal : (b : List ℕ) (n : ℕ) → run b (blockAt n) 512 ≡ zeros 512 → n < 4294967296 → setWord b (n * 512 + 508) n ≡ seal b n

@@ -1,6 +1,6 @@
 -- What DEL-M stores and what it leaves. Of a master at its home with a synonym behind it: that synonym moves into the home, its ROOT prior 0, the
 -- record behind it follows, and its old place is wiped. Of any other: its neighbours become each other's and its record is wiped.
-use Prim.Native.Nat.{ℕ, suc, _-_}
+use Prim.Native.Nat.{ℕ}
 use mathlib.Core.Path.{_≡_, refl, sym, ap, _∙_}
 use mathlib.Core.Logic.{_≢_, inl, inr, ⊎-elim}
 use mathlib.Core.Bool.{Bool, true, false, cond, not, _&&_, _||_, and-eq-true-iff}
@@ -9,10 +9,10 @@ use native.Mathlib.Omega.{arith}
 use lib.Dec.{eqb}
 use lib.ListN.{length-replicate}
 use borrow.Author.Tests.{eqb-true, eqb-false, eq-eqb, not-true, not-false}
-use Rattle.octets.specs.Octets.{run, setWord, zeros, allZero}
+use Rattle.octets.specs.Octets.{setWord, zeros, allZero}
 use Rattle.octets.specs.Below.{allBelow}
 use Rattle.octets.specs.BelowLaws.{allBelow-at}
-use Rattle.octets.specs.SpliceLaws.{getD-zeros}
+use Rattle.octets.specs.SpliceLaws.{getD-zeros, run-zeros}
 use Rattle.octets.specs.RunLaws.{allZero-zeros}
 use Rattle.schema.specs.declared.Entry.{Entry}
 use Rattle.schema.specs.declared.Schema.{Schema}
@@ -53,9 +53,6 @@ no-points t b n r h i j p m =
 
 -- ---- a wiped record
 
-three-zeros : (k x : ℕ) → k ≡ suc (suc (suc (suc x))) → run (zeros k) 1 3 ≡ zeros 3
-three-zeros k x q = rw q refl
-
 module _ {t : Schema} {b : List ℕ} {n : ℕ} (known : Known t b n) where
   abbrev e : Entry
   e = entryOf t n
@@ -66,7 +63,7 @@ module _ {t : Schema} {b : List ℕ} {n : ℕ} (known : Known t b n) where
   wiping : (r : ℕ) → InSet e r → AllValid t (whole n r nothing ∷ []) × AllZeroed (whole n r nothing ∷ [])
   wiping r i =
       let least = record-least t (known .ok) n (counted known) in
-      (((counted known, i, length-replicate (e .size) 0), tt), (three-zeros (e .size) (e .size - 4) (omega arith), tt))
+      (((counted known, i, length-replicate (e .size) 0), tt), (run-zeros (e .size) 1 3 (omega arith), tt))
 
   wiped : (r : ℕ) (c : List ℕ) → recordOf c e r ≡ nothing → (isLive c e r ≡ false) × (allZero (recordOf c e r) ≡ true)
   wiped r c is =

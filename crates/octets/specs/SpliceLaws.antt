@@ -1,7 +1,7 @@
 -- The laws of `splice` and `run`: what a store changes and what it leaves.
 use mathlib.Core.Path.{_≡_, refl, sym, ap, _∙_}
 use mathlib.Core.List.{List, [], _∷_, _++_}
-use Prim.Native.Nat.{ℕ, zero, suc, _+_, _≤_, _<_}
+use Prim.Native.Nat.{ℕ, zero, suc, _+_, _-_, _≤_, _<_}
 use native.Mathlib.Omega.{arith}
 use native.Mathlib.Numerals.{add-one}
 use lib.ListN.{length, getD, set, take, drop, replicate, length-set, length-take, length-drop, length-replicate, replicate-append-replicate}
@@ -223,3 +223,17 @@ getD-zeros (suc n) (suc i) = getD-zeros n i
 
 pub bytes-zeros : (n : ℕ) → Bytes (zeros n)
 bytes-zeros n i = rw getD-zeros (omega arith)
+
+-- a run of zeros is zeros
+drop-zeros : (a n m : ℕ) → n ≡ a + m → drop a (zeros n) ≡ zeros m
+drop-zeros zero n m h = let e : n ≡ m = omega arith in ap zeros e
+drop-zeros (suc a) zero m h = absurd (omega arith)
+drop-zeros (suc a) (suc n) m h = drop-zeros a n m (omega arith)
+
+take-zeros : (m n : ℕ) → m ≤ n → take m (zeros n) ≡ zeros m
+take-zeros zero n h = refl
+take-zeros (suc m) zero h = absurd (omega arith)
+take-zeros (suc m) (suc n) h = ap (λ (xs : List ℕ). 0 ∷ xs) (take-zeros m n (omega arith))
+
+pub run-zeros : (n a m : ℕ) → a + m ≤ n → run (zeros n) a m ≡ zeros m
+run-zeros n a m h = rw (drop-zeros a n (n - a) (omega arith)) (take-zeros m (n - a) (omega arith))

@@ -13,7 +13,6 @@ use Rattle.terms.specs.declared.Operation.{Operation}
 use Rattle.terms.specs.declared.RecordNo.{RecordNo}
 use Rattle.terms.specs.Status.{statusNumber}
 use Rattle.terms.specs.Laws.{status-number-one}
-use Rattle.terms.specs.Operation.{operationOf}
 use Rattle.schema.specs.declared.Path.{Path}
 use Rattle.schema.specs.declared.Entry.{Entry}
 use Rattle.schema.specs.declared.Schema.{Schema}

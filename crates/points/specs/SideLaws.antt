@@ -19,7 +19,6 @@ use Rattle.schema.specs.declared.Entry.{Entry}
 use Rattle.schema.specs.declared.Schema.{Schema}
 use Rattle.schema.specs.Decode.{pathOf}
 use Rattle.schema.specs.Place.{InSet, placeOf}
-use Rattle.schema.specs.PlaceLaws.{place-inside}
 use Rattle.records.specs.declared.Link.{Link}
 use Rattle.records.specs.Records.{lastOn}
 use Rattle.records.specs.Areas.{noLink}

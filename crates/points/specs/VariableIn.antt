@@ -11,7 +11,7 @@ use Rattle.schema.specs.declared.Entry.{Entry}
 use Rattle.schema.specs.declared.Schema.{Schema}
 use Rattle.schema.specs.Decode.{entryOf, pathOf, setCount}
 use Rattle.schema.specs.Place.{InSet, LiesIn, placeOf}
-use Rattle.schema.specs.PlaceLaws.{place-inside}
+use Rattle.schema.specs.PlaceLaws.{lies-most, place-inside}
 use Rattle.schema.specs.Guarantee.{MasterOk, SchemaOk}
 use Rattle.schema.specs.GuaranteeLaws.{lies}
 use Rattle.records.specs.declared.Link.{Link}
@@ -74,10 +74,7 @@ pub record LinksIn (e : Entry) (links : List Link) : Type 0 where
 
 -- ---- the laws
 
--- a set that lies in a base lies in the largest
-pub lies-most : {e : Entry} {n : ℕ} → LiesIn e n → LiesIn e 2097152
-lies-most l = record { per = l .per; whole = l .whole; sized = l .sized; many = l .many; inside = omega (arith, l .inside, l .small); small = omega arith }
-
+-- a set of points that lies in a base lies in the largest, and so do first and last of its paths
 pub points-most : {e : Entry} {n : ℕ} → PointsIn e n → PointsIn e 2097152
 points-most h =
     record { lies = lies-most (h .lies); some = h .some; kind = h .kind; few = h .few; head = h .head; path = h .path }

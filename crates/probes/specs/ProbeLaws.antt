@@ -1,5 +1,5 @@
 -- The ways through the C entries, in the words of what the code read.
-use Prim.Native.Nat.{ℕ, _-_, _%_, _≤_, _<_}
+use Prim.Native.Nat.{ℕ, _%_, _≤_, _<_}
 use mathlib.Core.Path.{_≡_, refl, sym, _∙_, ap}
 use mathlib.Core.Bool.{true, false, and-false}
 use mathlib.Core.List.{List}
@@ -16,6 +16,7 @@ use Rattle.schema.specs.declared.Decoded.{Decoded}
 use Rattle.schema.specs.Layout.{keepsRules}
 use Rattle.schema.specs.Decode.{schemaOf, entryOf, setCount, decodedOf}
 use Rattle.schema.specs.Place.{LiesIn, placeOf}
+use Rattle.schema.specs.PlaceLaws.{lies-most}
 use Rattle.schema.specs.Guarantee.{SchemaOk}
 use Rattle.schema.specs.GuaranteeLaws.{guaranteed, lies}
 use Rattle.probes.specs.Probes.{blocksIn, nowhere, placeInSet, placeUnder, placeIn, sealedAlone, sealAlone, sealAnswer}
@@ -78,13 +79,6 @@ module _ (t : Schema) (i r : ℕ) where
   unfolding placeUnder
   under-some h = rw (lt-ltb i (setCount t) h) refl
 
--- a set of a decoded schema lies within the most bytes that a data base has
-pub lies-most : (t : Schema) (i : ℕ) → SchemaOk t → i < setCount t → LiesIn (entryOf t i) 2097152
-lies-most t i ok h =
-    let l = lies i ok h refl in
-    let b = ok .blocks in
-    record { per = l .per; whole = l .whole; sized = l .sized; many = l .many; inside = omega (arith, l .inside); small = omega arith }
-
 -- an entry's number fits its byte, so the set that is looked up by the byte is the one that was asked for
 module _ (t : Schema) (i : ℕ) (ok : SchemaOk t) (h : i < setCount t) {e : Entry} (q : e ≡ entryOf t (i % 256)) where
   by-byte : e ≡ entryOf t i
@@ -94,7 +88,7 @@ module _ (t : Schema) (i : ℕ) (ok : SchemaOk t) (h : i < setCount t) {e : Entr
       q ∙ ap (entryOf t) (mod-eq-of-lt (omega arith))
 
   pub lies-found : LiesIn e 2097152
-  lies-found = rw by-byte (lies-most t i ok h)
+  lies-found = rw by-byte (lies-most (lies i ok h refl))
 
   pub under-found : (r : ℕ) {v : ℕ} → v ≡ placeInSet e r → v ≡ placeUnder t i r
   under-found r k = k ∙ ap (λ (x : Entry). placeInSet x r) by-byte ∙ under-some t i r h

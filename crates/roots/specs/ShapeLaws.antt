@@ -20,10 +20,6 @@ use Rattle.plans.specs.FitLaws.{run-fits}
 use Rattle.plans.specs.Stores.{wordsOf, wordStore, wordStores, headStores, wipedStores, planStores}
 use Rattle.roots.specs.Shape.{rootLinks, rootSide, Shaped, Longer}
 
--- what lies in a data base lies in the largest one
-pub lies-most : {e : Entry} {n : ℕ} → LiesIn e n → LiesIn e 2097152
-lies-most ok = record { per = ok .per; whole = ok .whole; sized = ok .sized; many = ok .many; inside = omega arith; small = omega arith }
-
 -- ---- words
 
 pub no-words : (p : Plan) → wordsOf p ≡ [] → wordStores (wordsOf p) ≡ []

@@ -49,6 +49,10 @@ div-mod-same a b k p q = sym (div-add-mod' a k) ∙ (rw (p, q) (div-add-mod' b k
 pub size-most : {e : Entry} {n : ℕ} → LiesIn e n → e .size ≤ 508
 size-most {e} ok = omega (arith, in-block 0 (e .per) (e .size) (ok .per) (ok .whole))
 
+-- a set that lies in a base lies in the largest
+pub lies-most : {e : Entry} {n : ℕ} → LiesIn e n → LiesIn e 2097152
+lies-most l = record { per = l .per; whole = l .whole; sized = l .sized; many = l .many; inside = omega (arith, l .inside, l .small); small = omega arith }
+
 -- the first record begins the set's first block
 pub place-first : (e : Entry) → placeOf e 1 ≡ blockAt (e .first .0)
 unfolding placeOf blockOf

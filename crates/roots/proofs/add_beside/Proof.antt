@@ -1,7 +1,7 @@
 -- `roots::add_beside` meets its contract: whose home it is decides. Assumes nothing.
 use mathlib.Core.Path.{sym, _∙_}
 use denote.Ref.{now}
-use Rattle.roots.specs.ShapeLaws.{lies-most}
+use Rattle.schema.specs.PlaceLaws.{lies-most}
 use Rattle.roots.specs.TestLaws.{stands-as}
 use Rattle.roots.specs.AddLaws.{synonym-stands, beside-own, beside-stranger}
 use borrow.Author.Needs.{needs}

@@ -5,7 +5,7 @@ use lib.Dec.{eqb}
 use mathlib.Core.Logic.{inr}
 use denote.Ref.{now}
 use Rattle.roots.specs.Shape.{strangerDamaged}
-use Rattle.roots.specs.ShapeLaws.{lies-most}
+use Rattle.schema.specs.PlaceLaws.{lies-most}
 use Rattle.roots.specs.TestLaws.{not-done}
 use Rattle.roots.specs.AddLaws.{stranger-tests, stranger-near, stranger-stands}
 use borrow.Author.Needs.{needs}

@@ -5,7 +5,7 @@ use mathlib.Core.Logic.{inr}
 use denote.Ref.{now}
 use Rattle.records.specs.Records.{rootNext}
 use Rattle.masters.specs.Root.{badRoot}
-use Rattle.roots.specs.ShapeLaws.{lies-most}
+use Rattle.schema.specs.PlaceLaws.{lies-most}
 use Rattle.roots.specs.TestLaws.{not-done, not-bad}
 use Rattle.roots.specs.DelLaws.{move-stands}
 use borrow.Author.Needs.{needs}

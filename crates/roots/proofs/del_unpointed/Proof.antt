@@ -6,7 +6,7 @@ use lib.Dec.{eqb}
 use denote.Ref.{now}
 use Rattle.masters.specs.Root.{synonymMoves}
 use Rattle.roots.specs.Shape.{neighboursDamaged}
-use Rattle.roots.specs.ShapeLaws.{lies-most}
+use Rattle.schema.specs.PlaceLaws.{lies-most}
 use Rattle.roots.specs.TestLaws.{not-done, stands-as}
 use Rattle.roots.specs.DelLaws.{del-tests, move-test, del-damaged, del-near, move-in, move-damaged, unlink-sound, move-stores, unlink-stores, unlink-stands}
 use borrow.Author.Needs.{needs}

@@ -1,6 +1,6 @@
 use mathlib.Core.Path.{_∙_}
 use Rattle.chains.specs.Chains.{readDamaged}
-use Rattle.points.specs.VariableIn.{lies-most}
+use Rattle.schema.specs.PlaceLaws.{lies-most}
 use Rattle.points.specs.DamageLaws.{uneven-from, ends-inside}
 use borrow.Author.Needs.{needs}
 use Rattle.onpoints.proofs.reads.read_damaged.Statement.{statement}

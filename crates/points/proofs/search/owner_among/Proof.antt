@@ -6,7 +6,7 @@ use Rattle.terms.specs.Terms.{keyOf}
 use Rattle.masters.specs.declared.Found.the-variants.{At}
 use Rattle.masters.specs.Find.{find}
 use Rattle.masters.specs.FindLaws.{find-at}
-use Rattle.points.specs.VariableIn.{lies-most}
+use Rattle.schema.specs.PlaceLaws.{lies-most}
 use Rattle.points.proofs.search.owner_among.Statement.{statement}
 use Rattle.points.proofs.search.owner_among.Tie as tie
 

@@ -2,7 +2,7 @@
 use mathlib.Core.Path.{_∙_}
 use borrow.Author.Needs.{needs}
 use Rattle.masters.specs.FindLaws.{find-at}
-use Rattle.points.specs.VariableIn.{lies-most}
+use Rattle.schema.specs.PlaceLaws.{lies-most}
 use Rattle.points.proofs.search.owner_on.Statement.{statement}
 use Rattle.points.proofs.search.owner_on.Tie as tie
 
