@@ -66,8 +66,8 @@ module _ (b : List ℕ) (e : Entry) (some : 1 ≤ e .records) (ms : MasterSet b 
   pub find-quiet : (key : List ℕ) → isDamaged (find b e key) ≡ false
   find-quiet key = ⊎-elim (λ t. rw (find-live (t .0) key (t .1) (t .2)) refl) (λ f. rw (find-none key f) refl) (found-or-not key)
 
-  pub find-at : (key : List ℕ) → isAt (find b e key) ≡ true → Live b e (recordFound (find b e key)) × (masterKey b e (recordFound (find b e key)) ≡ key)
-  find-at key h =
+  pub found-live : (key : List ℕ) → isAt (find b e key) ≡ true → Live b e (recordFound (find b e key)) × (masterKey b e (recordFound (find b e key)) ≡ key)
+  found-live key h =
       ⊎-elim (λ t. rw (find-live (t .0) key (t .1) (t .2)) (t .1, t .2)) (λ f. absurd (never-both _ h (rw (find-none key f) refl))) (found-or-not key)
 
   pub find-missing : (key : List ℕ) → isMissing (find b e key) ≡ true → (m : ℕ) → Live b e m → masterKey b e m ≢ key

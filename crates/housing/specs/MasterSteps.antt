@@ -31,7 +31,7 @@ use Rattle.keeping.specs.Rows.{World, Represents}
 use Rattle.keeping.specs.Tests.{AddMasterTests, DelMasterTests, WriteMasterTests}
 use Rattle.keeping.specs.DeedLaws.{record-missed, length-after}
 use Rattle.keeping.specs.SettleLaws.{free-zero, storable, sealed-after, clean-after}
-use Rattle.housing.specs.FindLaws.{find-at}
+use Rattle.housing.specs.FindLaws.{found-live}
 use Rattle.housing.specs.CallDeeds.{Known, Within, some, CallDeeds, write-deeds}
 use Rattle.keeping.specs.HeldLaws.{live-is, run-is, word-is}
 use Rattle.housing.specs.AddStores.{add-deeds}
@@ -120,7 +120,7 @@ module _ (t : Schema) (w : World t) (b : List ℕ) (rows : ℕ → ℕ → List 
   -- the master that was found
   found : (sought : List ℕ) → n < t .masters → isAt (find b (entryOf t n) sought) ≡ true
       → Live b (entryOf t n) (recordFound (find b (entryOf t n) sought)) × (masterKey b (entryOf t n) (recordFound (find b (entryOf t n) sought)) ≡ sought)
-  found sought m h = find-at b (entryOf t n) (some (knows m)) (g .masters n m) sought h
+  found sought m h = found-live b (entryOf t n) (some (knows m)) (g .masters n m) sought h
 
   pub add-master-step : (key area : List ℕ) → AddMasterTests t b n key area
       → MasterStep t b (committed b (addMasterStores b (entryOf t n) (homeIn (entryOf t n) key) area)) n

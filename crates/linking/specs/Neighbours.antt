@@ -29,7 +29,7 @@ use Rattle.sound.specs.ListLaws.{in-set-test}
 use Rattle.sound.specs.KeyLaws.{Live, MasterSet}
 use Rattle.keeping.specs.Rows.{World, Represents, nextNode, priorNode, Mine, PathRows, putAfter, putBefore, inserted, without}
 use Rattle.keeping.specs.Tests.{SpotOk, AddTests, DelTests}
-use Rattle.housing.specs.FindLaws.{find-live, find-at}
+use Rattle.housing.specs.FindLaws.{find-live, found-live}
 use Rattle.housing.specs.QuietLaws.{free-place}
 use Rattle.linking.specs.RowFacts.{pathAt, mastersAt, row-nozero, row-chain, row-nodup}
 use Rattle.linking.specs.RowChange.{Linkage, sideOf, RowPlace, side-beside}
@@ -170,7 +170,7 @@ module _ (t : Schema) (w : World t) (b : List ℕ) (rows : ℕ → ℕ → List 
 
   found-on : (k : ℕ) (key : List ℕ) → IsPathOf t i k → isAt (findOn b t (entryOf t i) k key) ≡ true
       → Live b (mastersAt t i k) (masterOn b t (entryOf t i) k key) × (masterKey b (mastersAt t i k) (masterOn b t (entryOf t i) k key) ≡ key)
-  found-on k key h f = let s = path-masters k h in find-at b (mastersAt t i k) (s .0) (s .1) key f
+  found-on k key h f = let s = path-masters k h in found-live b (mastersAt t i k) (s .0) (s .1) key f
 
   pub add-place : (named : ℕ) (area : List ℕ) (spot : Spot) → AddTests t b i named area spot → (k : ℕ) → k < entryOf t i .count
       → RowPlace t b rows (addLinkage t b rows i named area spot) k

@@ -11,7 +11,7 @@ use Rattle.terms.specs.declared.Status.the-variants.{Done}
 use Rattle.schema.specs.Decode.{schemaOf}
 use Rattle.calls.specs.Call.{Call, Outcome, callOf}
 use Rattle.lists.specs.Plain.{Point, Lists}
-use Rattle.lists.specs.Readings.{Request, run, plain, NoDamage, Reads, Place, setAt, entryAt, pathAt, link, IsPlace, noSetName, noPathName, rdnxt, Exists, readv, readr, ofKey, SameOnce}
+use Rattle.lists.specs.Readings.{Request, afterCalls, plain, NoDamage, Reads, Place, setNo, entryAt, pathNo, link, IsPlace, noSetName, noPathName, rdnxt, Exists, readv, readr, ofKey, SameOnce}
 
 -- ---- where a sequence starts
 
@@ -30,8 +30,8 @@ Start answer s b = SignsOn answer s b ⊎ Formatted answer s b
 -- the plain lists that b starts with: its forward readings, and nothing where there is no master
 pub record StartLists (answer : Call → Outcome) (s b : List ℕ) (l : Lists) : Type 0 where
   pub read : (w : Place) (key : List ℕ) → IsPlace (schemaOf s) w → Exists answer s b w key
-      → Reads (readv answer s b w key) (link (schemaOf s) w) (l (setAt (schemaOf s) w) (pathAt (schemaOf s) w) key)
-  pub none : (w : Place) (key : List ℕ) → IsPlace (schemaOf s) w → (Exists answer s b w key → ⊥) → l (setAt (schemaOf s) w) (pathAt (schemaOf s) w) key ≡ []
+      → Reads (readv answer s b w key) (link (schemaOf s) w) (l (setNo (schemaOf s) w) (pathNo (schemaOf s) w) key)
+  pub none : (w : Place) (key : List ℕ) → IsPlace (schemaOf s) w → (Exists answer s b w key → ⊥) → l (setNo (schemaOf s) w) (pathNo (schemaOf s) w) key ≡ []
 
 -- ---- what holds at the end, of one path and one key: xs is the plain list
 
@@ -40,7 +40,7 @@ pub record Kept (answer : Call → Outcome) (s b : List ℕ) (w : Place) (key : 
   pub forward : Exists answer s b w key → Reads (readv answer s b w key) (link (schemaOf s) w) xs
   pub backward : Exists answer s b w key → Reads (readr answer s b w key) (link (schemaOf s) w) (reverse xs)
   -- a sweep of the set comes to its end, and what it finds with that key are the points of the plain list, each once
-  pub sweep : (zs : List Point) × Reads (rdnxt answer s b w) 0 zs × SameOnce (ofKey (entryAt (schemaOf s) w) (pathAt (schemaOf s) w) key zs) xs
+  pub sweep : (zs : List Point) × Reads (rdnxt answer s b w) 0 zs × SameOnce (ofKey (entryAt (schemaOf s) w) (pathNo (schemaOf s) w) key zs) xs
   -- where it does not exist there is nothing
   pub none : (Exists answer s b w key → ⊥) → xs ≡ []
 
@@ -52,6 +52,6 @@ pub record Condition3 (answer : Call → Outcome) : Type 0 where
   pub empty : (s b : List ℕ) → Formatted answer s b → StartLists answer s b (λ i j key. [])
   -- after every sequence of calls
   pub quiet : (s b : List ℕ) (qs : List Request) → Start answer s b → NoDamage answer s b qs
-  pub accepted : (s b : List ℕ) (qs : List Request) → Start answer s b → SignsOn answer s (run answer s b qs)
+  pub accepted : (s b : List ℕ) (qs : List Request) → Start answer s b → SignsOn answer s (afterCalls answer s b qs)
   pub kept : (s b : List ℕ) (qs : List Request) (l : Lists) → Start answer s b → StartLists answer s b l → (w : Place) (key : List ℕ) → IsPlace (schemaOf s) w
-      → Kept answer s (run answer s b qs) w key (plain answer s b qs l (setAt (schemaOf s) w) (pathAt (schemaOf s) w) key)
+      → Kept answer s (afterCalls answer s b qs) w key (plain answer s b qs l (setNo (schemaOf s) w) (pathNo (schemaOf s) w) key)

@@ -36,7 +36,7 @@ use Rattle.keeping.specs.Rows.{PathRows}
 use Rattle.housing.specs.FindLaws.{find-live}
 use Rattle.linking.specs.RowFacts.{row-master}
 use Rattle.lists.specs.Plain.{setOf, entryIn}
-use Rattle.lists.specs.Readings.{Place, setAt, entryAt, pathAt, IsPlace, Exists, noPathName}
+use Rattle.lists.specs.Readings.{Place, setNo, entryAt, pathNo, IsPlace, Exists, noPathName}
 use Rattle.lists.specs.PlaceLaws.{place-path}
 use Rattle.lists.specs.Shown.{Ready}
 use Rattle.lists.specs.Outcomes.{outcome-done, done-rungs}
@@ -46,15 +46,15 @@ use Rattle.lists.specs.ReadTests.{masterScene, master-scene, Granted, re
 
 module _ (t : Schema) (ok : SchemaOk t) (w : Place) (p : IsPlace t w) where
   pub place-variable : isMaster (entryAt t w) ≡ false
-  place-variable = is-variable t ok (setAt t w) (place-path t w ok p .0) (p .set)
+  place-variable = is-variable t ok (setNo t w) (place-path t w ok p .0) (p .set)
 
-  pub place-master : pathOf (entryAt t w) (pathAt t w) .master .0 < t .masters
-  place-master = ok .path (setAt t w) (pathAt t w) (place-path t w ok p) .master
+  pub place-master : pathOf (entryAt t w) (pathNo t w) .master .0 < t .masters
+  place-master = ok .path (setNo t w) (pathNo t w) (place-path t w ok p) .master
 
 -- it stands for its rows
 pub place-rows : (s b : List ℕ) (rows : ℕ → ℕ → List ℕ → List ℕ) → Ready s b rows → (w : Place) → IsPlace (schemaOf s) w
-    → PathRows (schemaOf s) b (setAt (schemaOf s) w) (pathAt (schemaOf s) w) (rows (setAt (schemaOf s) w) (pathAt (schemaOf s) w))
-place-rows s b rows g w p = g .stands .paths (setAt (schemaOf s) w) (pathAt (schemaOf s) w) (place-path (schemaOf s) w (g .world .ok) p)
+    → PathRows (schemaOf s) b (setNo (schemaOf s) w) (pathNo (schemaOf s) w) (rows (setNo (schemaOf s) w) (pathNo (schemaOf s) w))
+place-rows s b rows g w p = g .stands .paths (setNo (schemaOf s) w) (pathNo (schemaOf s) w) (place-path (schemaOf s) w (g .world .ok) p)
 
 -- ---- what a call with the key of a live master has
 
@@ -100,7 +100,7 @@ module _ (s b : List ℕ) (rows : ℕ → ℕ → List ℕ → List ℕ) (g : Re
   t = schemaOf s
 
   abbrev x : Entry
-  x = mastersOn t (entryAt t w) (pathAt t w)
+  x = mastersOn t (entryAt t w) (pathNo t w)
 
   pub exists-says : Exists outcome s b w key → (m : ℕ) × Live b x m × (masterKey b x m ≡ key)
   exists-says h = rw (p .masters) at (found-by (callOf (text "READM") (w .masters) 0 noPathName key (w .master-area) s b) refl h)
@@ -117,9 +117,9 @@ module _ (s b : List ℕ) (rows : ℕ → ℕ → List ℕ → List ℕ) (g : Re
       rw (outcome-done c (rw (master-scene c refl) (readm-passes c m f kind))) refl
 
   -- a record in the row is owned by a master of that key
-  pub row-or-exists : (rows (setAt t w) (pathAt t w) key ≡ []) ⊎ Exists outcome s b w key
+  pub row-or-exists : (rows (setNo t w) (pathNo t w) key ≡ []) ⊎ Exists outcome s b w key
   row-or-exists =
-      by (rows (setAt t w) (pathAt t w) key) (row-master t b (setAt t w) (pathAt t w) (rows (setAt t w) (pathAt t w)) key (place-rows s b rows g w p))
+      by (rows (setNo t w) (pathNo t w) key) (row-master t b (setNo t w) (pathNo t w) (rows (setNo t w) (pathNo t w)) key (place-rows s b rows g w p))
     where
       by : (rs : List ℕ) → ((r : ℕ) → In r rs → (m : ℕ) × Live b x m × (masterKey b x m ≡ key)) → (rs ≡ []) ⊎ Exists outcome s b w key
       by [] h = inl refl

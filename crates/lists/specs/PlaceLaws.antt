@@ -23,14 +23,14 @@ use Rattle.schema.specs.GuaranteeLaws.{set-is, guaranteed}
 use Rattle.schema.specs.RuleFacts.{head-facts, name-facts}
 use Rattle.records.specs.Areas.{areaLength}
 use Rattle.calls.specs.Scene.{setNamed, pathName, pathNamed}
-use Rattle.lists.specs.Readings.{Place, setAt, pathAt, IsPlace}
+use Rattle.lists.specs.Readings.{Place, setNo, pathNo, IsPlace}
 
 -- a place names a path of a variable set: masters have no paths
-pub place-path : (t : Schema) (w : Place) → SchemaOk t → IsPlace t w → IsPathOf t (setAt t w) (pathAt t w)
-place-path t w ok p = (go (ltb (setAt t w) (t .masters)) refl, p .set, p .path)
+pub place-path : (t : Schema) (w : Place) → SchemaOk t → IsPlace t w → IsPathOf t (setNo t w) (pathNo t w)
+place-path t w ok p = (go (ltb (setNo t w) (t .masters)) refl, p .set, p .path)
   where
-    go : (b : Bool) → ltb (setAt t w) (t .masters) ≡ b → t .masters ≤ setAt t w
-    go true h = absurd (omega (arith, p .path, ok .master (setAt t w) (ltb-true _ _ h) .none))
+    go : (b : Bool) → ltb (setNo t w) (t .masters) ≡ b → t .masters ≤ setNo t w
+    go true h = absurd (omega (arith, p .path, ok .master (setNo t w) (ltb-true _ _ h) .none))
     go false h = ltb-false _ _ h
 
 -- ---- names
@@ -85,10 +85,10 @@ placeOn t i j =
     }
 
 module _ (t : Schema) (ok : SchemaOk t) (small : (k : ℕ) → k < setCount t → entryOf t k .name < 4294967296) (i j : ℕ) (h : IsPathOf t i j) where
-  set-there : setAt t (placeOn t i j) ≡ i
+  set-there : setNo t (placeOn t i j) ≡ i
   set-there = set-named t ok i (h .1) (small i (h .1))
 
-  path-there : pathAt t (placeOn t i j) ≡ j
+  path-there : pathNo t (placeOn t i j) ≡ j
   path-there = rw set-there (path-named t ok i j h)
 
   masters-there : setNamed t (placeOn t i j .masters) ≡ pathOf (entryOf t i) j .master .0
@@ -111,7 +111,7 @@ module _ (t : Schema) (ok : SchemaOk t) (small : (k : ℕ) → k < setCount t �
   path-length = omega (arith, ok .path i j h .letters)
 
 pub every-path : (s : List ℕ) → keepsRules s ≡ true → (i j : ℕ) → IsPathOf (schemaOf s) i j
-    → (w : Place) × IsPlace (schemaOf s) w × (setAt (schemaOf s) w ≡ i) × (pathAt (schemaOf s) w ≡ j)
+    → (w : Place) × IsPlace (schemaOf s) w × (setNo (schemaOf s) w ≡ i) × (pathNo (schemaOf s) w ≡ j)
     × (length (w .set) ≡ 4) × (length (w .path) ≡ 8) × (length (w .masters) ≡ 4)
 every-path s kept i j h =
     let ok = guaranteed s kept in

@@ -34,7 +34,7 @@ use Rattle.calls.specs.Outcome.{outcome}
 use Rattle.calls.specs.Theorems.{status-of-ladder}
 use Rattle.calls.specs.Reply.{masterIn, homeOfKey, forward, backward, spotOf, storesBy, storesOf}
 use Rattle.keeping.specs.Tests.{AddTests}
-use Rattle.housing.specs.FindLaws.{find-quiet, find-at}
+use Rattle.housing.specs.FindLaws.{find-quiet, found-live}
 use Rattle.housing.specs.QuietLaws.{add-master-quiet, del-master-quiet}
 use Rattle.housing.specs.MasterSteps.{add-master-storable, del-master-storable, write-master-storable}
 use Rattle.linking.specs.Neighbours.{add-quiet, del-quiet, own-found}
@@ -154,7 +154,7 @@ module _ (c : Call) (rows : ℕ → ℕ → List ℕ → List ℕ) (g : Ready (c
           let d = del-master-tests t (g .world .ok) c p f u i in
           let s = g .world .ok .set n (omega (arith, d .set)) .some in
           let ms = g .stands .masters n (d .set) in
-          let a = find-at b e s ms (c .key) (d .found) in
+          let a = found-live b e s ms (c .key) (d .found) in
           let k : homeIn e (c .key) ≡ ownHome b e (recordFound (find b e (c .key))) = ap (homeIn e) (sym (a .1)) in
           rw u (rw k (del-master-quiet b e s ms (recordFound (find b e (c .key))) (a .0)))
 

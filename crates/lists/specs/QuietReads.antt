@@ -29,7 +29,7 @@ use Rattle.calls.specs.Ladder.{isLink, parameterTests, foundTests}
 use Rattle.calls.specs.LadderLaws.{Passes}
 use Rattle.calls.specs.Reply.{linkOf, masterIn, forward, backward}
 use Rattle.keeping.specs.Rows.{nextNode, priorNode, Mine, PathRows}
-use Rattle.housing.specs.FindLaws.{find-at}
+use Rattle.housing.specs.FindLaws.{found-live}
 use Rattle.linking.specs.Neighbours.{read-quiet, point-cut}
 use Rattle.lists.specs.Plain.{setOf, entryIn, pathIn}
 use Rattle.lists.specs.Shown.{Ready}
@@ -109,7 +109,7 @@ module _ (c : Call) (rows : ℕ → ℕ → List ℕ → List ℕ) (g : Ready (c
     master : Live b masters m × (masterKey b masters m ≡ c .key)
     master =
         let k = g .world .ok .path n j path .master in
-        find-at b masters (g .world .ok .set (pathOf e j .master .0) (omega arith) .some) (g .stands .masters (pathOf e j .master .0) k) (c .key)
+        found-live b masters (g .world .ok .set (pathOf e j .master .0) (omega arith) .some) (g .stands .masters (pathOf e j .master .0) k) (c .key)
         (point-master t (g .world .ok) c p f v fi mi)
 
     -- a number refers to a record of the chain

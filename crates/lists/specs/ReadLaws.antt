@@ -22,7 +22,7 @@ use Rattle.calls.specs.Outcome.{done, outcome}
 use Rattle.keeping.specs.Rows.{Mine, nextNode, priorNode}
 use Rattle.linking.specs.RowFacts.{row-chain}
 use Rattle.linking.specs.Neighbours.{read-quiet}
-use Rattle.lists.specs.Readings.{Reads, Place, setAt, entryAt, pathAt, IsPlace, Exists, readv, readr, link}
+use Rattle.lists.specs.Readings.{Reads, Place, setNo, entryAt, pathNo, IsPlace, Exists, readv, readr, link}
 use Rattle.lists.specs.Shown.{shown, Ready}
 use Rattle.lists.specs.Outcomes.{outcome-done, Gives}
 use Rattle.lists.specs.ReadTests.{readOf, readText, chainScene, chain-scene, Granted, Followed, read-passes}
@@ -44,10 +44,10 @@ module _ (s b : List ℕ) (rows : ℕ → ℕ → List ℕ → List ℕ) (g : Re
   t = schemaOf s
 
   abbrev i : ℕ
-  i = setAt t w
+  i = setNo t w
 
   abbrev j : ℕ
-  j = pathAt t w
+  j = pathNo t w
 
   abbrev e : Entry
   e = entryAt t w

@@ -34,9 +34,9 @@ under s b q = callOf (q .operation) (q .name) (q .reference) (q .path) (q .key) 
 -- ---- a sequence of calls under the schema s, from the data base b on
 
 -- the data base at the end
-unfoldable pub run : (Call → Outcome) → List ℕ → List ℕ → List Request → List ℕ
-run answer s b [] = b
-run answer s b (q ∷ qs) = run answer s (answer (under s b q) .base) qs
+unfoldable pub afterCalls : (Call → Outcome) → List ℕ → List ℕ → List Request → List ℕ
+afterCalls answer s b [] = b
+afterCalls answer s b (q ∷ qs) = afterCalls answer s (answer (under s b q) .base) qs
 
 -- the plain lists at the end; the step of a call is not shown the data base
 unfoldable pub plain : (Call → Outcome) → List ℕ → List ℕ → List Request → Lists → Lists
@@ -69,24 +69,24 @@ pub record Place : Type 0 where
   pub master-area : List ℕ
 
 module _ (t : Schema) (w : Place) where
-  abbrev pub setAt : ℕ
-  setAt = setNamed t (w .set)
+  abbrev pub setNo : ℕ
+  setNo = setNamed t (w .set)
 
   abbrev pub entryAt : Entry
-  entryAt = entryOf t setAt
+  entryAt = entryOf t setNo
 
-  abbrev pub pathAt : ℕ
-  pathAt = pathNamed t entryAt (w .path)
+  abbrev pub pathNo : ℕ
+  pathNo = pathNamed t entryAt (w .path)
 
   -- LKxx of the path
   abbrev pub link : ℕ
-  link = linkOf (pathOf entryAt pathAt)
+  link = linkOf (pathOf entryAt pathNo)
 
 -- the schema has the set and the path, `masters` names the path's masters, and the areas are of the right length
 pub record IsPlace (t : Schema) (w : Place) : Type 0 where
-  pub set : setAt t w < setCount t
-  pub path : pathAt t w < entryAt t w .count
-  pub masters : setNamed t (w .masters) ≡ pathOf (entryAt t w) (pathAt t w) .master .0
+  pub set : setNo t w < setCount t
+  pub path : pathNo t w < entryAt t w .count
+  pub masters : setNamed t (w .masters) ≡ pathOf (entryAt t w) (pathNo t w) .master .0
   pub point-area : length (w .point-area) ≡ areaLength (entryAt t w)
   pub master-area : length (w .master-area) ≡ areaLength (entryOf t (setNamed t (w .masters)))
 

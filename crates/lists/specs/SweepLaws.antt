@@ -27,7 +27,7 @@ use Rattle.calls.specs.Call.{Outcome}
 use Rattle.calls.specs.Outcome.{outcome}
 use Rattle.keeping.specs.Rows.{World, Mine, PathRows}
 use Rattle.linking.specs.RowFacts.{row-nodup}
-use Rattle.lists.specs.Readings.{Reads, Place, setAt, entryAt, pathAt, IsPlace, rdnxt, ofKey, SameOnce}
+use Rattle.lists.specs.Readings.{Reads, Place, setNo, entryAt, pathNo, IsPlace, rdnxt, ofKey, SameOnce}
 use Rattle.lists.specs.PlaceLaws.{place-path}
 use Rattle.lists.specs.Shown.{shown, Ready}
 use Rattle.lists.specs.Outcomes.{Gives}
@@ -122,13 +122,13 @@ module _ (s b : List ℕ) (rows : ℕ → ℕ → List ℕ → List ℕ) (g : Re
   -- RDNXT from 0 on gives every live record of the set in ascending order, then END.
   pub sweep-reads : Reads (rdnxt outcome s b w) 0 (shown b (entryAt (schemaOf s) w) (liveRecords b (entryAt (schemaOf s) w)))
   sweep-reads =
-      swept b (entryAt (schemaOf s) w) (rdnxt outcome s b w) (g .world .ok .set (setAt (schemaOf s) w) (p .set) .many)
+      swept b (entryAt (schemaOf s) w) (rdnxt outcome s b w) (g .world .ok .set (setNo (schemaOf s) w) (p .set) .many)
       (λ r l. sweep-gives _ sweeping (g .rules) (g .stands .sized) (p .set) (p .point-area) l)
 
   -- and those of the key are the points of the row, each once
-  pub sweep-same : SameOnce (ofKey (entryAt (schemaOf s) w) (pathAt (schemaOf s) w) key (shown b (entryAt (schemaOf s) w) (liveRecords b (entryAt (schemaOf s) w))))
-      (shown b (entryAt (schemaOf s) w) (rows (setAt (schemaOf s) w) (pathAt (schemaOf s) w) key))
+  pub sweep-same : SameOnce (ofKey (entryAt (schemaOf s) w) (pathNo (schemaOf s) w) key (shown b (entryAt (schemaOf s) w) (liveRecords b (entryAt (schemaOf s) w))))
+      (shown b (entryAt (schemaOf s) w) (rows (setNo (schemaOf s) w) (pathNo (schemaOf s) w) key))
   sweep-same =
       let is = place-path (schemaOf s) w (g .world .ok) p in
-      row-points (schemaOf s) b (setAt (schemaOf s) w) (pathAt (schemaOf s) w) (rows (setAt (schemaOf s) w) (pathAt (schemaOf s) w)) key (g .world) (g .stands .sized) is
-      (g .stands .paths (setAt (schemaOf s) w) (pathAt (schemaOf s) w) is)
+      row-points (schemaOf s) b (setNo (schemaOf s) w) (pathNo (schemaOf s) w) (rows (setNo (schemaOf s) w) (pathNo (schemaOf s) w)) key (g .world) (g .stands .sized) is
+      (g .stands .paths (setNo (schemaOf s) w) (pathNo (schemaOf s) w) is)

@@ -31,7 +31,7 @@ use Rattle.keeping.specs.Rows.{World}
 use Rattle.keeping.specs.FreshLaws.{format-represents}
 use Rattle.linking.specs.Standing.{rowsIn, sound-represents, represents-sound}
 use Rattle.lists.specs.Plain.{Lists}
-use Rattle.lists.specs.Readings.{Request, under, run, plain, NoDamage, Place, setAt, entryAt, pathAt, IsPlace, Exists, readv, link, noSetName, noPathName}
+use Rattle.lists.specs.Readings.{Request, under, afterCalls, plain, NoDamage, Place, setNo, entryAt, pathNo, IsPlace, Exists, readv, link, noSetName, noPathName}
 use Rattle.lists.specs.Condition.{SignsOn, Formatted, Start, StartLists, Kept, Condition3}
 use Rattle.lists.specs.ReadingLaws.{step-unseen, reads-one}
 use Rattle.lists.specs.PlaceLaws.{place-path}
@@ -159,20 +159,20 @@ module _ (s b : List ℕ) (rows : AllRows) (g : Ready s b rows) where
   }
 
   -- and no others
-  starts-shown : (l : Lists) → StartLists outcome s b l → (w : Place) → IsPlace (schemaOf s) w → Shows (schemaOf s) b rows l (setAt (schemaOf s) w) (pathAt (schemaOf s) w)
+  starts-shown : (l : Lists) → StartLists outcome s b l → (w : Place) → IsPlace (schemaOf s) w → Shows (schemaOf s) b rows l (setNo (schemaOf s) w) (pathNo (schemaOf s) w)
   starts-shown l h w p key = by (status? (outcome (callOf (text "READM") (w .masters) 0 noPathName key (w .master-area) s b) .status))
     where
       by : Exists outcome s b w key ⊎ (Exists outcome s b w key → ⊥)
-          → l (setAt (schemaOf s) w) (pathAt (schemaOf s) w) key ≡ shown b (entryAt (schemaOf s) w) (rows (setAt (schemaOf s) w) (pathAt (schemaOf s) w) key)
+          → l (setNo (schemaOf s) w) (pathNo (schemaOf s) w) key ≡ shown b (entryAt (schemaOf s) w) (rows (setNo (schemaOf s) w) (pathNo (schemaOf s) w) key)
       by (inl k) = reads-one (readv outcome s b w key) (link (schemaOf s) w) _ _ (h .read w key p k) (reads-forward s b rows g w p key k)
       by (inr n) = h .none w key p n ∙ sym (shown-starts .none w key p n)
 
   -- what is kept of one path and key
   rows-kept : (w : Place) (key : List ℕ) → IsPlace (schemaOf s) w
-      → Kept outcome s b w key (shown b (entryAt (schemaOf s) w) (rows (setAt (schemaOf s) w) (pathAt (schemaOf s) w) key))
+      → Kept outcome s b w key (shown b (entryAt (schemaOf s) w) (rows (setNo (schemaOf s) w) (pathNo (schemaOf s) w) key))
   rows-kept w key p = record {
     forward = λ h. reads-forward s b rows g w p key h;
-    backward = λ h. rw (shown-reverse b (entryAt (schemaOf s) w) (rows (setAt (schemaOf s) w) (pathAt (schemaOf s) w) key)) at (reads-backward s b rows g w p key h);
+    backward = λ h. rw (shown-reverse b (entryAt (schemaOf s) w) (rows (setNo (schemaOf s) w) (pathNo (schemaOf s) w) key)) at (reads-backward s b rows g w p key h);
     sweep = (shown b (entryAt (schemaOf s) w) (liveRecords b (entryAt (schemaOf s) w)), sweep-reads s b rows g w p key, sweep-same s b rows g w p key);
     none = λ n. shown-starts .none w key p n;
   }
@@ -193,15 +193,15 @@ module _ (s : List ℕ) where
   Ended b l i j = (rows : AllRows) × Ready s b rows × Shows (schemaOf s) b rows l i j
 
   ends : (b : List ℕ) (rows : AllRows) → Ready s b rows → (qs : List Request) (l : Lists) (i j : ℕ) → IsPathOf (schemaOf s) i j → Shows (schemaOf s) b rows l i j
-      → Ended (run outcome s b qs) (plain outcome s b qs l) i j
-  unfolding run plain
+      → Ended (afterCalls outcome s b qs) (plain outcome s b qs l) i j
+  unfolding afterCalls plain
   ends b rows g [] l i j p h = (rows, g, h)
   ends b rows g (q ∷ qs) l i j p h =
       ends (outcome (under s b q) .base) (call-turned (under s b q) rows g .now) (turned-ready s b rows g q) qs _ i j p
       (λ key. ap (λ (m : Lists). m i j key) (sym (step-unseen s b q _ _ l)) ∙ call-turned (under s b q) rows g .shows l i j p h key)
 
-  run-ready : (b : List ℕ) (rows : AllRows) → Ready s b rows → (qs : List Request) → (now : AllRows) × Ready s (run outcome s b qs) now
-  unfolding run
+  run-ready : (b : List ℕ) (rows : AllRows) → Ready s b rows → (qs : List Request) → (now : AllRows) × Ready s (afterCalls outcome s b qs) now
+  unfolding afterCalls
   run-ready b rows g [] = (rows, g)
   run-ready b rows g (q ∷ qs) = run-ready (outcome (under s b q) .base) (call-turned (under s b q) rows g .now) (turned-ready s b rows g q) qs
 
@@ -212,13 +212,13 @@ condition-3 = record {
   starts = λ s b h. let r = start-ready s b h in (λ i j key. shown b (entryOf (schemaOf s) i) (r .0 i j key), shown-starts s b (r .0) (r .1));
   empty = λ s b h. shown-starts s b (λ i j key. []) (format-ready s b h);
   quiet = λ s b qs h. let r = start-ready s b h in quiet-run s b (r .0) (r .1) qs;
-  accepted = λ s b qs h. let r = start-ready s b h in let e = run-ready s b (r .0) (r .1) qs in signs (callOf (text "SINON") noSetName 0 noPathName [] [] s (run outcome s b qs)) (e .0) (e .1) signing-on;
+  accepted = λ s b qs h. let r = start-ready s b h in let e = run-ready s b (r .0) (r .1) qs in signs (callOf (text "SINON") noSetName 0 noPathName [] [] s (afterCalls outcome s b qs)) (e .0) (e .1) signing-on;
   kept = λ s b qs l h k w key p.
       let r = start-ready s b h in
-      let i = setAt (schemaOf s) w in
-      let j = pathAt (schemaOf s) w in
+      let i = setNo (schemaOf s) w in
+      let j = pathNo (schemaOf s) w in
       let e = ends s b (r .0) (r .1) qs l i j (place-path (schemaOf s) w (r .1 .world .ok) p) (starts-shown s b (r .0) (r .1) l k w p) in
-      rw (e .2 key) (rows-kept s (run outcome s b qs) (e .0) (e .1) w key p);
+      rw (e .2 key) (rows-kept s (afterCalls outcome s b qs) (e .0) (e .1) w key p);
 }
 
 -- ---- every store that meets condition 2 meets condition 3

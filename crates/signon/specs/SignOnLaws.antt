@@ -12,18 +12,18 @@ use Rattle.sound.specs.Sound.{setClean}
 use Rattle.sound.specs.Linear.{mastersInPlace, pathInPlace, pathsInPlace, setInPlace}
 
 -- path j of the set e, and set i of the schema, are in place
-abbrev pub pathAt : Schema → List ℕ → Entry → ℕ → Bool
-pathAt t b e j = pathInPlace b e (pathOf e j) (entryOf t (pathOf e j .master .0))
+abbrev pub pathPlaced : Schema → List ℕ → Entry → ℕ → Bool
+pathPlaced t b e j = pathInPlace b e (pathOf e j) (entryOf t (pathOf e j .master .0))
 
-abbrev pub setAt : Schema → List ℕ → ℕ → Bool
-setAt t b i = setInPlace t b (entryOf t i)
+abbrev pub setPlaced : Schema → List ℕ → ℕ → Bool
+setPlaced t b i = setInPlace t b (entryOf t i)
 
 -- what the code was told of a path that it read, and of a set
 pub path-read : (t : Schema) (b : List ℕ) (e : Entry) (j : ℕ) {p : Path} {x : Entry} {o : Bool} → p ≡ pathOf e j → x ≡ entryOf t (p .master .0)
-    → o ≡ pathInPlace b e p x → o ≡ pathAt t b e j
+    → o ≡ pathInPlace b e p x → o ≡ pathPlaced t b e j
 path-read t b e j ep ex eo = rw (← ep, ← ex) eo
 
-pub set-read : (t : Schema) (b : List ℕ) (i : ℕ) {e : Entry} {o : Bool} → e ≡ entryOf t i → o ≡ setInPlace t b e → o ≡ setAt t b i
+pub set-read : (t : Schema) (b : List ℕ) (i : ℕ) {e : Entry} {o : Bool} → e ≡ entryOf t i → o ≡ setInPlace t b e → o ≡ setPlaced t b i
 set-read t b i ee eo = rw (← ee) eo
 
 module _ (t : Schema) (b : List ℕ) (e : Entry) {c : Bool} (ec : c ≡ setClean b e) where

@@ -15,7 +15,7 @@ ghost use Rattle.schema.specs.Decode.{setCount};
 ghost use Rattle.schema.specs.Guarantee.{SchemaOk};
 ghost use Rattle.sound.specs.Linear.{pathsInPlace, setInPlace, inPlace};
 ghost use Rattle.signon.specs.Facts.{VariableIn, SetIn};
-ghost use Rattle.signon.specs.SignOnLaws.{setAt};
+ghost use Rattle.signon.specs.SignOnLaws.{setPlaced};
 
 pub mod homes;
 pub mod points;
@@ -54,7 +54,7 @@ fn set_in_place(base: &[u8], t: Schema, e: Entry) -> bool
 fn sets_in_place(base: &[u8], t: Schema) -> bool
     requires { ⌜ SchemaOk t ⌝ }
     requires { ⌜ length (now base) ≡ t .blocks * 512 ⌝ }
-    ensures { λ o. ⌜ o ≡ allBelow (setAt t (now (base .entry))) (setCount t) ⌝ }
+    ensures { λ o. ⌜ o ≡ allBelow (setPlaced t (now (base .entry))) (setCount t) ⌝ }
 {
     let n = t.masters + t.variables;
     let mut i: u8 = 0;

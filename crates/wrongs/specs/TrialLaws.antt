@@ -25,7 +25,7 @@ use Rattle.calls.specs.Ladder.{refusal, wrongKind, blankAreaKey, otherAreaKey, 
 use Rattle.calls.specs.Reply.{given, referenceAfter, areaAfter, storesOf, baseAfter}
 use Rattle.calls.specs.Outcome.{done, outcomeIn, outcome}
 use Rattle.lists.specs.Plain.{Point, before, step}
-use Rattle.lists.specs.Readings.{under, run, plain, Place, setAt, pathAt, IsPlace, Exists}
+use Rattle.lists.specs.Readings.{under, afterCalls, plain, Place, setNo, pathNo, IsPlace, Exists}
 use Rattle.cases.specs.Small.{twoSets}
 use Rattle.wrongs.specs.Wrong.{refusesAll, alwaysDone, storesNothing, linksFirst, everyOther, forgetsNext, formatLeaves, insertsAfter, readsForward, sweepsNothing}
 use Rattle.wrongs.specs.Twin.{twin, formt, bottle, point, path1, path2}
@@ -37,7 +37,7 @@ Formats x = x .store (under twin (x .base) formt) .status ≡ Done
 
 -- the plain list of the bottle's points on a path, after the trial's calls
 abbrev plainOn : Trial → Place → List Point
-plainOn x w = plain (x .store) twin (startOf (x .store) x) (x .calls) (λ i j key. []) (setAt (schemaOf twin) w) (pathAt (schemaOf twin) w) bottle
+plainOn x w = plain (x .store) twin (startOf (x .store) x) (x .calls) (λ i j key. []) (setNo (schemaOf twin) w) (pathNo (schemaOf twin) w) bottle
 
 -- what a refutation by reading asks: the plain list is xs
 pub record Readable (x : Trial) (w : Place) (xs : List Point) : Type 0 where
@@ -59,7 +59,7 @@ pub record Computed : Type 0 where
   pub formats : Holds formatting × Formats formatting
 
 pub computed : Computed
-unfolding xor halfAt wordAt splice setWord every sameBytes sumOnto allBelow sumBelow countBelow lowestFrom concatBelow operationOf checkOf isSealed seal blockRule headRule nameRule masterRule variableRule countRule pathRule slotRule setRule entryRule restRule namesRule clash lettersRule formRule linksBefore keyPlace linkPlace bodyPlace firstBlock sizeRule keepsRules pathFrom entryFrom schemaOf blockOf placeOf areaKeyPlace newMaster newPaths newVariable blocksSealed storeAll sealAll committed sealBelow formatted seek find lowestFree addMasterFull addMasterDamaged addMasterStores readDamaged neighboursAt addDamaged addStores delDamaged delStores isIn within checksTrue recordClean leftoverClean setClean follow isChain lastOf keysDistinct mastersOfHome homeList homeSound masterSetSound pathList pathSound hasMaster variablePathSound variableSetSound setSound sound refusal wrongKind blankAreaKey otherAreaKey ladder done outcomeIn outcome given referenceAfter areaAfter storesOf baseAfter setNamed pathNamed sceneUnder before step run plain twoSets twin refusesAll alwaysDone storesNothing linksFirst everyOther forgetsNext formatLeaves insertsAfter readsForward sweepsNothing answers
+unfolding xor halfAt wordAt splice setWord every sameBytes sumOnto allBelow sumBelow countBelow lowestFrom concatBelow operationOf checkOf isSealed seal blockRule headRule nameRule masterRule variableRule countRule pathRule slotRule setRule entryRule restRule namesRule clash lettersRule formRule linksBefore keyPlace linkPlace bodyPlace firstBlock sizeRule keepsRules pathFrom entryFrom schemaOf blockOf placeOf areaKeyPlace newMaster newPaths newVariable blocksSealed storeAll sealAll committed sealBelow formatted seek find lowestFree addMasterFull addMasterDamaged addMasterStores readDamaged neighboursAt addDamaged addStores delDamaged delStores isIn within checksTrue recordClean leftoverClean setClean follow isChain lastOf keysDistinct mastersOfHome homeList homeSound masterSetSound pathList pathSound hasMaster variablePathSound variableSetSound setSound sound refusal wrongKind blankAreaKey otherAreaKey ladder done outcomeIn outcome given referenceAfter areaAfter storesOf baseAfter setNamed pathNamed sceneUnder before step afterCalls plain twoSets twin refusesAll alwaysDone storesNothing linksFirst everyOther forgetsNext formatLeaves insertsAfter readsForward sweepsNothing answers
 computed =
     record {
       refuses = (refl, refl, refl);

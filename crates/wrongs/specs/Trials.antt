@@ -11,7 +11,7 @@ use Rattle.terms.specs.Terms.{endRef, linkRef}
 use Rattle.terms.specs.Status.{statusNumber}
 use Rattle.calls.specs.Call.{Call, Outcome}
 use Rattle.calls.specs.Outcome.{outcome}
-use Rattle.lists.specs.Readings.{Request, under, run}
+use Rattle.lists.specs.Readings.{Request, under, afterCalls}
 use Rattle.wrongs.specs.Wrong.{refusesAll, alwaysDone, storesNothing, linksFirst, forgetsNext, formatLeaves, insertsAfter, readsForward, sweepsNothing}
 use Rattle.wrongs.specs.Twin.{twin, formt, signOn, addBottle, addPoint, removePoint, path1, path2, readFrom, readBack, linkAt, sweepFrom}
 
@@ -34,7 +34,7 @@ abbrev pub startOf : (Call → Outcome) → Trial → List ℕ
 startOf store x = store (under twin (x .base) formt) .base
 
 abbrev pub endOf : (Call → Outcome) → Trial → List ℕ
-endOf store x = run store twin (startOf store x) (x .calls)
+endOf store x = afterCalls store twin (startOf store x) (x .calls)
 
 abbrev pub told : (Call → Outcome) → Trial → List ℕ
 told store x = answers store (endOf store x) (x .questions)

@@ -16,7 +16,7 @@ use Rattle.schema.specs.Decode.{schemaOf}
 use Rattle.calls.specs.Call.{Call, Outcome}
 use Rattle.calls.specs.Outcome.{IsOutcome}
 use Rattle.lists.specs.Plain.{Point}
-use Rattle.lists.specs.Readings.{Request, Reads, Place, setAt, pathAt, rdnxt, readv, ofKey, SameOnce}
+use Rattle.lists.specs.Readings.{Request, Reads, Place, setNo, pathNo, rdnxt, readv, ofKey, SameOnce}
 use Rattle.lists.specs.Condition.{Formatted, Kept, Condition3}
 use Rattle.lists.specs.Theorem.{is-outcome}
 use Rattle.wrongs.specs.Wrong.{refusesAll, alwaysDone, storesNothing, linksFirst, forgetsNext, formatLeaves, insertsAfter, readsForward, sweepsNothing}
@@ -68,7 +68,7 @@ pub always-done-3 : Condition3 alwaysDone → ⊥
 unfolding alwaysDone answers
 always-done-3 h =
     endless (readv alwaysDone twin [] path2 bottle) (λ r. refl) (linkAt path2)
-    (h .starts twin [] (inl refl) .0 (setAt (schemaOf twin) path2) (pathAt (schemaOf twin) path2) bottle)
+    (h .starts twin [] (inl refl) .0 (setNo (schemaOf twin) path2) (pathNo (schemaOf twin) path2) bottle)
     (λ e. omega (arith, ap (λ (xs : List ℕ). getD xs 1 0) (computed .does .0)))
     (h .starts twin [] (inl refl) .1 .read path2 bottle (computed .links .1 .place) refl)
 

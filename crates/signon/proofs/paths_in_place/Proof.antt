@@ -7,13 +7,13 @@ use denote.Ref.{now}
 use Rattle.octets.specs.Below.{allBelow}
 use Rattle.sound.specs.Linear.{pathsInPlace}
 use Rattle.clean.specs.CleanLaws.{passes, fails, ends}
-use Rattle.signon.specs.SignOnLaws.{pathAt, path-read}
+use Rattle.signon.specs.SignOnLaws.{pathPlaced, path-read}
 use borrow.Author.Needs.{needs}
 use Rattle.signon.proofs.paths_in_place.Statement.{statement}
 use Rattle.signon.proofs.paths_in_place.Tie as tie
 
 abbrev Inv-loop : tie.InvT-loop
-Inv-loop base t e n j₀ j = (j ≤ e .count) × (allBelow (pathAt t base e) j ≡ true)
+Inv-loop base t e n j₀ j = (j ≤ e .count) × (allBelow (pathPlaced t base e) j ≡ true)
 
 abbrev μ-loop : tie.MeasureT-loop
 μ-loop base t e n j₀ j = n - j
@@ -49,7 +49,7 @@ returns c =
     let l = p .before .before in
     let a = l .before .before .before .args in
     let o = path-read (a .t) (now (a .base)) (a .e) (l .loop .j) (p .path-of .ensures) (x .entry-of .ensures) (c .before .path-in-place .ensures) in
-    fails (pathAt (a .t) (now (a .base)) (a .e)) (a .e .count) (l .loop .j) (p .before .loop-test .taken) o (c .if1 .taken)
+    fails (pathPlaced (a .t) (now (a .base)) (a .e)) (a .e .count) (l .loop .j) (p .before .loop-test .taken) o (c .if1 .taken)
 
 add-j : tie.Need-add-j Inv-loop μ-loop
 add-j c = search needs
@@ -64,14 +64,14 @@ loop-again c =
     let l = p .before .before in
     let a = l .before .before .before .args in
     let o = path-read (a .t) (now (a .base)) (a .e) (l .loop .j) (p .path-of .ensures) (x .entry-of .ensures) (c .before .path-in-place .ensures) in
-    (omega (arith, p .before .loop-test .taken), passes (pathAt (a .t) (now (a .base)) (a .e)) (l .loop .j) o (c .if1 .left) (l .loop .inv .1))
+    (omega (arith, p .before .loop-test .taken), passes (pathPlaced (a .t) (now (a .base)) (a .e)) (l .loop .j) o (c .if1 .left) (l .loop .inv .1))
 
 returns-2 : tie.Need-returns-2 Inv-loop μ-loop
 unfolding pathsInPlace
 returns-2 c =
     let l = c .before in
     let a = l .before .before .before .args in
-    ends (pathAt (a .t) (now (a .base)) (a .e)) (a .e .count) (l .loop .j) (l .loop .inv .0) (c .loop-test .left) (l .loop .inv .1)
+    ends (pathPlaced (a .t) (now (a .base)) (a .e)) (a .e .count) (l .loop .j) (l .loop .inv .0) (c .loop-test .left) (l .loop .inv .1)
 
 pub paths-in-place-spec : {M : Type 1} → statement M
 paths-in-place-spec =

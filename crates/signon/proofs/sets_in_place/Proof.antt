@@ -8,13 +8,13 @@ use Rattle.octets.specs.Below.{allBelow}
 use Rattle.schema.specs.Decode.{setCount}
 use Rattle.clean.specs.CleanLaws.{passes, fails, ends}
 use Rattle.signon.specs.Facts.{set-in}
-use Rattle.signon.specs.SignOnLaws.{setAt, set-read}
+use Rattle.signon.specs.SignOnLaws.{setPlaced, set-read}
 use borrow.Author.Needs.{needs}
 use Rattle.signon.proofs.sets_in_place.Statement.{statement}
 use Rattle.signon.proofs.sets_in_place.Tie as tie
 
 abbrev Inv-loop : tie.InvT-loop
-Inv-loop base t n i₀ i = (i ≤ setCount t) × (allBelow (setAt t base) i ≡ true)
+Inv-loop base t n i₀ i = (i ≤ setCount t) × (allBelow (setPlaced t base) i ≡ true)
 
 abbrev μ-loop : tie.MeasureT-loop
 μ-loop base t n i₀ i = n - i
@@ -42,7 +42,7 @@ returns c =
     let e = c .before .before in
     let l = e .before .before in
     let a = l .before .before .before .args in
-    fails (setAt (a .t) (now (a .base))) (setCount (a .t)) (l .loop .i) (e .before .loop-test .taken)
+    fails (setPlaced (a .t) (now (a .base))) (setCount (a .t)) (l .loop .i) (e .before .loop-test .taken)
     (set-read (a .t) (now (a .base)) (l .loop .i) (e .entry-of .ensures) (c .before .set-in-place .ensures)) (c .if1 .taken)
 
 add-i : tie.Need-add-i Inv-loop μ-loop
@@ -60,7 +60,7 @@ loop-again c =
     let l = e .before .before in
     let a = l .before .before .before .args in (
       omega (arith, e .before .loop-test .taken),
-      passes (setAt (a .t) (now (a .base))) (l .loop .i)
+      passes (setPlaced (a .t) (now (a .base))) (l .loop .i)
           (set-read (a .t) (now (a .base)) (l .loop .i) (e .entry-of .ensures) (c .before .set-in-place .ensures)) (c .if1 .left) (l .loop .inv .1),
     )
 
@@ -68,7 +68,7 @@ returns-2 : tie.Need-returns-2 Inv-loop μ-loop
 returns-2 c =
     let l = c .before in
     let a = l .before .before .before .args in
-    ends (setAt (a .t) (now (a .base))) (setCount (a .t)) (l .loop .i) (l .loop .inv .0) (c .loop-test .left) (l .loop .inv .1)
+    ends (setPlaced (a .t) (now (a .base))) (setCount (a .t)) (l .loop .i) (l .loop .inv .0) (c .loop-test .left) (l .loop .inv .1)
 
 pub sets-in-place-spec : {M : Type 1} → statement M
 sets-in-place-spec =

@@ -5,7 +5,7 @@ use Rattle.schema.specs.Decode.{setCount}
 use Rattle.sound.specs.Sound.{checksTrue}
 use Rattle.sound.specs.Linear.{inPlace}
 use Rattle.clean.specs.CleanLaws.{stops, goes-on}
-use Rattle.signon.specs.SignOnLaws.{setAt}
+use Rattle.signon.specs.SignOnLaws.{setPlaced}
 use borrow.Author.Needs.{needs}
 use Rattle.signon.proofs.sign_on.Statement.{statement}
 use Rattle.signon.proofs.sign_on.Tie as tie
@@ -17,7 +17,7 @@ returns : tie.Need-returns
 unfolding inPlace
 returns c =
     let a = c .before .before .before .args in
-    stops (checksTrue (a .t) (now (a .base))) (allBelow (setAt (a .t) (now (a .base))) (setCount (a .t))) (c .before .checks-true .ensures) (c .if1 .taken)
+    stops (checksTrue (a .t) (now (a .base))) (allBelow (setPlaced (a .t) (now (a .base))) (setCount (a .t))) (c .before .checks-true .ensures) (c .if1 .taken)
 
 sets-in-place-requires : tie.Need-sets-in-place-requires
 sets-in-place-requires c κs = search needs
@@ -26,7 +26,7 @@ returns-2 : tie.Need-returns-2
 unfolding inPlace
 returns-2 c =
     let a = c .before .before .before .before .args in
-    goes-on (checksTrue (a .t) (now (a .base))) (allBelow (setAt (a .t) (now (a .base))) (setCount (a .t))) (c .before .before .checks-true .ensures) (c .before .if1 .left) (c .sets-in-place .ensures)
+    goes-on (checksTrue (a .t) (now (a .base))) (allBelow (setPlaced (a .t) (now (a .base))) (setCount (a .t))) (c .before .before .checks-true .ensures) (c .before .if1 .left) (c .sets-in-place .ensures)
 
 pub sign-on-spec : {M : Type 1} → statement M
 sign-on-spec = tie.close (tie.spec checks-true-requires returns sets-in-place-requires returns-2)
