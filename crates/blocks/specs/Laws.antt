@@ -11,7 +11,7 @@ use borrow.Author.Tests.{eq-eqb, eqb-true}
 use borrow.Rule.Slice.PartMut.{putMid}
 use Rattle.octets.specs.Octets.{Bytes, Apart, run, splice, wordAt, wordBytes, setWord, sumOnto}
 use Rattle.octets.specs.SpliceLaws.{length-run, run-splice-out}
-use Rattle.octets.specs.WordLaws.{wordAt-part, wordAt-setWord, wordAt-setWord-other, length-setWord, bytes-setWord, getD-setWord-out, setWord-part, setWord-comm, setWord-id}
+use Rattle.octets.specs.WordLaws.{wordAt-part, wordAt-setWord, wordAt-setWord-other, length-setWord, bytes-setWord, getD-setWord-out, setWord-part, setWord-id}
 use Rattle.octets.specs.RunLaws.{sumOnto-word}
 use Rattle.blocks.specs.Blocks.{blockAt, checkAt, checkOf, HasBlock, isSealed, seal}
 
@@ -86,9 +86,6 @@ pub checkIn-seal : (xs : List ℕ) (n : ℕ) → checkIn (seal xs n) n ≡ check
 unfolding seal setWord
 checkIn-seal xs n = checkIn-splice xs (checkAt n) (wordBytes (checkIn xs n)) n (λ p q. omega arith)
 
-pub checkIn-seal-other : (xs : List ℕ) (n m : ℕ) → (m ≡ n → ⊥) → checkIn (seal xs n) m ≡ checkIn xs m
-checkIn-seal-other xs n m h = ap (λ (b : List ℕ). checkOf b m) (run-seal xs n (blockAt m) 512 (λ p q. h (omega arith)))
-
 pub wordAt-seal : (xs : List ℕ) (n : ℕ) → HasBlock xs n → wordAt (seal xs n) (checkAt n) ≡ checkIn xs n
 unfolding seal
 wordAt-seal xs n h =
@@ -107,11 +104,3 @@ isSealed-seal-other xs n m h = isSealed-same (seal xs n) xs m (run-seal xs n (bl
 pub seal-sealed : (xs : List ℕ) (n : ℕ) → isSealed xs n ≡ true → HasBlock xs n → Bytes xs → seal xs n ≡ xs
 unfolding isSealed seal
 seal-sealed xs n s h b = ap (setWord xs (checkAt n)) (sym (eqb-true _ _ s)) ∙ setWord-id xs (checkAt n) b (omega arith)
-
--- two blocks are sealed in either order
-pub seal-comm : (xs : List ℕ) (n m : ℕ) → (m ≡ n → ⊥) → seal (seal xs n) m ≡ seal (seal xs m) n
-unfolding seal
-seal-comm xs n m h =
-    ap (setWord (seal xs n) (checkAt m)) (checkIn-seal-other xs n m h)
-    ∙ setWord-comm xs (checkAt n) (checkIn xs n) (checkAt m) (checkIn xs m) (λ p q. h (omega arith))
-    ∙ ap (setWord (seal xs m) (checkAt n)) (sym (checkIn-seal-other xs m n (λ e. h (sym e))))

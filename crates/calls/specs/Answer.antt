@@ -21,7 +21,7 @@ use Rattle.chains.specs.Chains.{isPointOf}
 use Rattle.calls.specs.Call.{Call, Outcome, variableCalls, adds}
 use Rattle.calls.specs.Scene.{Scene}
 use Rattle.calls.specs.Ladder.{Test, refusal, on, but, wrongKind, keyLength, blankAreaKey, otherAreaKey, isNumber, isLink, finders, otherStoredKey, generalTests, otherMasterTests, finalTests, ladder}
-use Rattle.calls.specs.Outcome.{refused, done, outcomeIn}
+use Rattle.calls.specs.Outcome.{refused, done}
 use Rattle.calls.specs.OutcomeLaws.{Refusing}
 
 -- the first of two statuses that refuses
@@ -31,10 +31,6 @@ firstOf s more = cond (eqb (statusNumber s) 0) more s
 -- what a status makes of a call
 unfoldable pub answered : Scene → Call → Status → Outcome
 answered x c s = cond (eqb (statusNumber s) 0) (done x c) (refused c s)
-
-pub outcome-answered : (x : Scene) (c : Call) → outcomeIn x c ≡ answered x c (refusal (ladder x c))
-unfolding outcomeIn answered
-outcome-answered x c = refl
 
 -- ---- the ladder in groups: which set and path; the forms of the parameters; the named master and the referenced record; the rest
 

@@ -71,18 +71,6 @@ in-cases x [] vs m = inr m
 in-cases x (u ∷ us) vs (inl e) = inl (inl e)
 in-cases x (u ∷ us) vs (inr m) = ⊎-map inr (λ k. k) (in-cases x us vs m)
 
--- one more element in the middle, and one less
-pub in-more : (z x : ℕ) (us vs : List ℕ) → In z (us ++ vs) → In z (us ++ x ∷ vs)
-in-more z x us vs m = ⊎-elim (λ k. in-left z us (x ∷ vs) k) (λ k. in-right z us (x ∷ vs) (inr k)) (in-cases z us vs m)
-
-pub in-less : (z x : ℕ) (us vs : List ℕ) → z ≢ x → In z (us ++ x ∷ vs) → In z (us ++ vs)
-in-less z x us vs n m = go (in-cases z us (x ∷ vs) m)
-  where
-    go : In z us ⊎ In z (x ∷ vs) → In z (us ++ vs)
-    go (inl k) = in-left z us vs k
-    go (inr (inl e)) = absurd (n e)
-    go (inr (inr k)) = in-right z us vs k
-
 -- a member splits its list
 pub split-in : (x : ℕ) (ys : List ℕ) → In x ys → (us : List ℕ) × (vs : List ℕ) × (ys ≡ us ++ x ∷ vs)
 split-in x [] m = absurd m

@@ -3,7 +3,7 @@
 use Prim.Native.Nat.{ℕ, _<_}
 use mathlib.Core.Path.{_≡_, refl}
 use mathlib.Core.Bool.{Bool, true, false, cond, not, _&&_, _||_}
-use mathlib.Core.List.{List, _++_}
+use mathlib.Core.List.{List}
 use lib.Dec.{eqb, leb, ltb}
 use lib.ListN.{length}
 use borrow.Author.Tests.{ltb-true, not-false}
@@ -23,15 +23,12 @@ use Rattle.records.specs.Areas.{isMaster, areaLength, areaMasterKey, areaKeyOn}
 use Rattle.calls.specs.Call.{Call, oneOf, variableCalls}
 use Rattle.calls.specs.Scene.{Scene}
 use Rattle.calls.specs.Reply.{linkOf}
-use Rattle.calls.specs.Answer.{placeTests, formTests}
-use Rattle.calls.specs.Ladder.{refusal, wrongKind, blankAreaKey, otherAreaKey, otherStoredKey, parameterTests}
+use Rattle.calls.specs.Answer.{formTests}
+use Rattle.calls.specs.Ladder.{refusal, wrongKind, blankAreaKey, otherAreaKey, otherStoredKey}
 use Rattle.forms.specs.declared.Rungs.{Rungs}
 use Rattle.forms.specs.Form.{rungsOf, referenceStatus, formStatus}
 
 -- ---- the ladder
-
-pub parameter-tests : (x : Scene) (c : Call) → parameterTests x c ≡ placeTests x c ++ formTests x c
-parameter-tests x c = refl
 
 pub form-tests : (x : Scene) (c : Call)
     → refusal (formTests x c) ≡ formStatus (x .operation) (x .entry) (x .on) (linkOf (x .path)) (x .masters .key) (c .reference) (c .key) (c .area)

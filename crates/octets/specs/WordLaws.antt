@@ -6,14 +6,10 @@ use native.Mathlib.Omega.{arith}
 use native.Mathlib.Nat.{div-div-eq-div-mul, div-add-mod', mod-eq-of-lt}
 use lib.ListN.{length, getD, set}
 use borrow.Rule.Slice.PartMut.{putMid}
-use Rattle.octets.specs.Octets.{Bytes, Apart, run, word4, halfAt, wordAt, splice, wordBytes, setWord}
-use Rattle.octets.specs.SpliceLaws.{drop-four, length-splice, getD-splice-out, getD-splice-in, getD-run, splice-comm, splice-part, splice-splice, splice-run-id, bytes-splice}
+use Rattle.octets.specs.Octets.{Bytes, Apart, run, word4, wordAt, splice, wordBytes, setWord}
+use Rattle.octets.specs.SpliceLaws.{drop-four, length-splice, getD-splice-out, getD-splice-in, getD-run, splice-part, splice-run-id, bytes-splice}
 
 -- ---- reading
-
-pub halfAt-lt : (xs : List ℕ) (at : ℕ) → Bytes xs → halfAt xs at < 65536
-unfolding halfAt
-halfAt-lt xs at h = omega (arith, h at, h (at + 1))
 
 pub wordAt-lt : (xs : List ℕ) (at : ℕ) → Bytes xs → wordAt xs at < 4294967296
 unfolding wordAt
@@ -27,22 +23,12 @@ wordAt-same xs ys p q h =
     let f : q + 0 ≡ q = omega arith in
     cc (h 0 (omega arith), h 1 (omega arith), h 2 (omega arith), h 3 (omega arith))
 
-pub halfAt-same : (xs ys : List ℕ) (p q : ℕ) → ((k : ℕ) → k < 2 → getD xs (p + k) 0 ≡ getD ys (q + k) 0) → halfAt xs p ≡ halfAt ys q
-unfolding halfAt
-halfAt-same xs ys p q h =
-    let e : p + 0 ≡ p = omega arith in
-    let f : q + 0 ≡ q = omega arith in
-    cc (h 0 (omega arith), h 1 (omega arith))
-
--- a word, or a number of two bytes, of a part
+-- a word of a part
 getD-part : (a k : ℕ) (xs : List ℕ) (p i : ℕ) → p + i < k → getD (run xs a k) (p + i) 0 ≡ getD xs (a + p + i) 0
 getD-part a k xs p i h = let e : a + p + i ≡ a + (p + i) = omega arith in rw e (getD-run xs a k (p + i) h)
 
 pub wordAt-part : (a k : ℕ) (xs : List ℕ) (p : ℕ) → p + 4 ≤ k → wordAt (run xs a k) p ≡ wordAt xs (a + p)
 wordAt-part a k xs p h = wordAt-same (run xs a k) xs p (a + p) (λ i l. getD-part a k xs p i (omega arith))
-
-pub halfAt-part : (a k : ℕ) (xs : List ℕ) (p : ℕ) → p + 2 ≤ k → halfAt (run xs a k) p ≡ halfAt xs (a + p)
-halfAt-part a k xs p h = halfAt-same (run xs a k) xs p (a + p) (λ i l. getD-part a k xs p i (omega arith))
 
 -- a run apart from a word leaves it
 pub wordAt-splice : (xs : List ℕ) (a : ℕ) (ys : List ℕ) (p : ℕ) → Apart a (length ys) p 4 → wordAt (splice xs a ys) p ≡ wordAt xs p
@@ -112,15 +98,6 @@ wordAt-setWord xs at v hv h =
     let e : at + 0 ≡ at = omega arith in
     let z : wordAt (setWord xs at v) (at + 0) ≡ wordAt (wordBytes v) 0 = wordAt-splice-in xs at (wordBytes v) 0 (omega arith) h in
     (rw e at z) ∙ word4-bytes v hv
-
--- of two words stored at one place the later stands; at places apart, the order is free
-pub setWord-setWord : (xs : List ℕ) (at u v : ℕ) → setWord (setWord xs at u) at v ≡ setWord xs at v
-unfolding setWord
-setWord-setWord xs at u v = splice-splice xs at (wordBytes u) (wordBytes v) (omega arith)
-
-pub setWord-comm : (xs : List ℕ) (a u b v : ℕ) → Apart a 4 b 4 → setWord (setWord xs a u) b v ≡ setWord (setWord xs b v) a u
-unfolding setWord
-setWord-comm xs a u b v h = splice-comm xs a (wordBytes u) b (wordBytes v) h
 
 -- storing the word that stands there changes nothing
 pub setWord-id : (xs : List ℕ) (at : ℕ) → Bytes xs → at + 4 ≤ length xs → setWord xs at (wordAt xs at) ≡ xs

@@ -2,12 +2,12 @@
 -- To `omega` a quotient, a remainder and a product of two variables are unknowns; the first section holds the few facts about them, and
 -- everything below it is linear.
 use Prim.Native.Nat.{ℕ, _+_, _*_, _-_, _/_, _%_, _≤_, _<_}
-use mathlib.Core.Path.{_≡_, refl, sym, ap, _∙_}
+use mathlib.Core.Path.{_≡_, refl, sym, _∙_}
 use mathlib.Core.Logic.{_≢_, _⊎_, inl, inr}
 use mathlib.Core.Bool.{Bool, true, false}
 use mathlib.Core.List.{List}
 use native.Mathlib.Omega.{arith}
-use native.Mathlib.Nat.{zero-div, zero-mod, mod-lt, mul-le-mul-right, div-lt-iff-lt-mul, lt-div-mul-add, div-add-mod'}
+use native.Mathlib.Nat.{mod-lt, mul-le-mul-right, div-lt-iff-lt-mul, lt-div-mul-add, div-add-mod'}
 use borrow.Author.Tests.{ltb-true, ltb-false}
 use lib.Dec.{ltb}
 use lib.ListN.{length, drop, length-drop}
@@ -45,18 +45,9 @@ div-mod-same a b k p q = sym (div-add-mod' a k) ∙ (rw (p, q) (div-add-mod' b k
 
 -- ---- one record
 
--- "L the record length, at most 508"
-pub size-most : {e : Entry} {n : ℕ} → LiesIn e n → e .size ≤ 508
-size-most {e} ok = omega (arith, in-block 0 (e .per) (e .size) (ok .per) (ok .whole))
-
 -- a set that lies in a base lies in the largest
 pub lies-most : {e : Entry} {n : ℕ} → LiesIn e n → LiesIn e 2097152
 lies-most l = record { per = l .per; whole = l .whole; sized = l .sized; many = l .many; inside = omega (arith, l .inside, l .small); small = omega arith }
-
--- the first record begins the set's first block
-pub place-first : (e : Entry) → placeOf e 1 ≡ blockAt (e .first .0)
-unfolding placeOf blockOf
-place-first e = omega (arith, zero-div (e .per), ap (λ (k : ℕ). k * e .size) (zero-mod (e .per)))
 
 -- a record's block is in the base
 pub block-inside : {e : Entry} {n : ℕ} (r : ℕ) → LiesIn e n → InSet e r → blockAt (blockOf e r) + 512 ≤ n

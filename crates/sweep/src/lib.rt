@@ -6,7 +6,6 @@ use names::entry_number;
 use schema::Entry;
 use schema::Schema;
 use schema::layout::entry_of;
-use terms::EntryNo;
 use terms::Operation;
 use terms::Reference;
 use terms::Status;
