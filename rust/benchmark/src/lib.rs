@@ -15,5 +15,5 @@ mod workload;
 pub use figures::{grouped, Figures};
 pub use rounds::{fill, measure, Row};
 pub use sides::{model, store, Side};
-pub use stop::{time, Stop};
+pub use stop::Stop;
 pub use workload::{Phase, Sizes, Step, Workload};

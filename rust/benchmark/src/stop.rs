@@ -14,6 +14,7 @@ use crate::Side;
 pub struct Stop<'a> {
     /// What it has paid for that the one before it has not.
     pub what: String,
+    pub side: Side,
     pub call: Call<'a>,
     pub area: Vec<u8>,
     /// The data base that each call finds.
@@ -23,38 +24,49 @@ pub struct Stop<'a> {
     pub status: Status,
     /// How many calls make a round.
     pub calls: u32,
+    pub best: Best,
 }
 
-/// The best time of each, in nanoseconds a call. Every round makes all of
-/// them, so that a busy moment of the machine does not meet one alone.
-///
-/// What putting blocks back takes is subtracted, best from best: the best of
-/// the differences would be that of the round whose putting back was disturbed.
-pub fn time(stops: &[Stop], rounds: usize, side: Side, schema: &[u8]) -> Vec<f64> {
-    let mut times = vec![[f64::MAX; 2]; stops.len()];
-    for _ in 0..rounds {
-        for (stop, [best, back]) in stops.iter().zip(&mut times) {
-            let round = stop.round(side, schema);
-            *best = best.min(round[0]);
-            *back = back.min(round[1]);
-        }
-    }
-    times.into_iter().map(|[best, back]| best - back).collect()
+/// Nanoseconds a call in the best round so far, and of putting blocks back in
+/// the best one. Each has a best of its own: the least difference would be that
+/// of the round whose putting back was disturbed.
+pub struct Best {
+    with_back: f64,
+    back: f64,
+}
+
+impl Best {
+    pub const NONE: Best = Best {
+        with_back: f64::MAX,
+        back: f64::MAX,
+    };
 }
 
 impl Stop<'_> {
-    /// The time of the calls with the blocks put back, and of the latter alone.
-    fn round(&self, side: Side, schema: &[u8]) -> [f64; 2] {
+    /// The same by another side.
+    pub fn by(self, side: Side) -> Self {
+        Stop { side, ..self }
+    }
+
+    /// Nanoseconds a call, without putting blocks back.
+    pub fn taken(&self) -> f64 {
+        self.best.with_back - self.best.back
+    }
+
+    /// One round. Panics if the call does not stop where it should.
+    pub fn round(&mut self, schema: &[u8]) {
         let mut area = self.area.clone();
         let mut base = self.base.clone();
-        let (status, _) = side(&self.call, &mut area, schema, &mut base);
+        let (status, _) = (self.side)(&self.call, &mut area, schema, &mut base);
         assert_eq!(Status::numbered(status), Some(self.status), "{}", self.what);
         self.put_back(&mut base);
-        let calls = self.repeat(|| {
-            black_box(side(&self.call, &mut area, schema, &mut base));
+        let with_back = self.repeat(|| {
+            black_box((self.side)(&self.call, &mut area, schema, &mut base));
             self.put_back(&mut base);
         });
-        [calls, self.repeat(|| self.put_back(black_box(&mut base)))]
+        let back = self.repeat(|| self.put_back(black_box(&mut base)));
+        self.best.with_back = self.best.with_back.min(with_back);
+        self.best.back = self.best.back.min(back);
     }
 
     fn repeat(&self, mut step: impl FnMut()) -> f64 {

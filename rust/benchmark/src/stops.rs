@@ -3,9 +3,9 @@
 use yarugota::{Call, Operation, Reference, SetName, Status};
 use yarugota_model::{seal, DataBase, Schema, BLOCK};
 
-use crate::stop::{bytes_of, Stop};
+use crate::stop::{bytes_of, Best, Stop};
 use crate::workload::{on_path, POINT, POINTS};
-use crate::{fill, model, Sizes, Workload};
+use crate::{fill, model, store, Sizes, Workload};
 
 /// The entries of bottles and points.
 const BOTTLE_ENTRY: usize = 0;
@@ -70,6 +70,7 @@ impl Ground {
             self.stop(&tested, call, &in_master, Status::Damg),
             self.stop(&stored, call, &base, Status::Done),
         ];
+        // The last three get as far as the scan, which may take longer than all the rest.
         let scanning = if in_front == 0 { MANY } else { SOME };
         stops[3..].iter_mut().for_each(|stop| stop.calls = scanning);
         stops[5].stored = blocks;
@@ -96,6 +97,12 @@ impl Ground {
         ]
     }
 
+    /// ADDVC that is done, with so many live points in front of the free one.
+    pub fn addvc_done(&self, in_front: u32) -> Stop<'_> {
+        let mut stops = self.addvc(in_front);
+        stops.pop().expect("the last one is done")
+    }
+
     /// RDNXT from that reference on a full data base.
     pub fn rdnxt(&self, reference: u32) -> Stop<'_> {
         let call = Call {
@@ -110,17 +117,15 @@ impl Ground {
         }
     }
 
-    /// FORMT.
+    /// FORMT, and beside it the zeroing that it cannot do without.
     pub fn formt(&self) -> Vec<Stop<'_>> {
         let call = Call::new(Operation::Formt);
-        let done = self.stop("zeros and checks", call, &self.full, Status::Done);
-        vec![
-            self.decoded(call),
-            Stop {
-                calls: SOME,
-                ..done
-            },
-        ]
+        let stop = |what| Stop {
+            calls: SOME,
+            ..self.stop(what, call, &self.full, Status::Done)
+        };
+        let alone = stop("zeroing alone, no FORMT").by(zeros);
+        vec![self.decoded(call), alone, stop("all of FORMT")]
     }
 
     /// SINON, damage by damage.
@@ -159,12 +164,14 @@ impl Ground {
         area.resize(if speaks_of_all { 0 } else { POINT }, b'.');
         Stop {
             what: what.to_owned(),
+            side: store,
             call,
             area,
             base: base.to_vec(),
             stored: vec![],
             status,
             calls: MANY,
+            best: Best::NONE,
         }
     }
 
@@ -226,6 +233,12 @@ impl Ground {
         seal(&mut base[bytes_of(at / BLOCK)], (at / BLOCK) as u32);
         base
     }
+}
+
+/// Zeroes a data base and does nothing else.
+fn zeros(call: &Call, _: &mut [u8], _: &[u8], base: &mut [u8]) -> (u32, u32) {
+    base.fill(0);
+    (0, call.reference.bits())
 }
 
 /// The same data base with a false check in one block.

@@ -2,7 +2,7 @@
 
 use yarugota::Call;
 use yarugota_benchmark::stops::Ground;
-use yarugota_benchmark::{grouped, measure, model, store, time, Figures, Side, Sizes};
+use yarugota_benchmark::{grouped, measure, model, store, Figures, Side, Sizes};
 
 const SMALL: Sizes = Sizes {
     bottles: 8,
@@ -84,22 +84,21 @@ fn what_is_wrong_ends_the_run() {
     }
 }
 
-/// `time` holds that each call is answered with the status at which it should
+/// A round holds that each call is answered with the status at which it should
 /// stop.
 #[test]
 fn the_stops_are_where_they_should_be() {
     let ground = Ground::new(SMALL);
-    let rdnxt = vec![ground.rdnxt(0), ground.rdnxt(20)];
     let all = [
         ground.addvc(0),
         ground.addvc(20),
         ground.readv(),
         ground.sinon(),
         ground.formt(),
-        rdnxt,
+        vec![ground.rdnxt(0), ground.rdnxt(20)],
     ];
-    for stops in all {
-        time(&stops, 1, model, &ground.schema);
+    for stop in all.into_iter().flatten() {
+        stop.by(model).round(&ground.schema);
     }
 }
 

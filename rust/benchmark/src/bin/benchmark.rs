@@ -6,7 +6,7 @@ use yarugota_benchmark::{grouped, measure, model, store, Row, Sizes};
 use yarugota_model::Schema;
 
 /// How many rounds are counted.
-const ROUNDS: usize = 7;
+const ROUNDS: usize = 11;
 
 fn main() -> ExitCode {
     if !yarugota::LINKED {
