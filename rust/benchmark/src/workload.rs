@@ -11,7 +11,9 @@ const PATH: PathName = PathName::new(BOTTLES, *b"PT");
 const BOTTLE_DATA: u16 = 42;
 const POINT_DATA: u16 = 12;
 const KEY: usize = 8;
+/// Calls that are timed together; of an add, which scans, fewer.
 const SLICE: usize = 100;
+const SHORT_SLICE: usize = 10;
 /// Bytes of an area.
 const BOTTLE: usize = KEY + BOTTLE_DATA as usize;
 pub const POINT: usize = KEY + POINT_DATA as usize;
@@ -74,7 +76,8 @@ pub struct Phase<'a> {
     /// How many of the calls find no such record.
     pub ends: usize,
     /// So many calls are timed together. Short slices keep what else the
-    /// machine does out of the best times.
+    /// machine does out of the best times; longer ones meet more of it, so that
+    /// the slower side would look slower than it is.
     pub slice: usize,
 }
 
@@ -154,7 +157,7 @@ impl Workload {
                 .collect(),
             room: POINT,
             ends: 0,
-            slice: SLICE,
+            slice: SHORT_SLICE,
         }
     }
 
