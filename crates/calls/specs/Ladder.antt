@@ -1,6 +1,6 @@
 -- Document 01, "Status numbers": the order of the tests. One list for all calls: they differ in which tests they have, not in the order.
 -- `x` is the scene, `c` the call.
-use Prim.Native.Nat.{ℕ, _+_, _*_}
+use Prim.Native.Nat.{ℕ, _*_}
 use mathlib.Core.Bool.{Bool, true, cond, not, _&&_, _||_}
 use mathlib.Core.List.{List, [], _∷_, _++_}
 use lib.Dec.{eqb, leb, ltb}

@@ -1,6 +1,6 @@
 -- What a call speaks of: the schema, the set, the path and the master that its parameters name. Found before anything is tested: where a
 -- name leads nowhere the scene holds what stands past a list's end, and a test of the ladder refuses the call.
-use Prim.Native.Nat.{ℕ, _+_}
+use Prim.Native.Nat.{ℕ}
 use mathlib.Core.Bool.{cond}
 use mathlib.Core.List.{List, _++_}
 use lib.Dec.{eqb}

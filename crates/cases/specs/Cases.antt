@@ -1,6 +1,6 @@
 -- Cases a to j as one table. Each row asks the definitions a question and holds document 01's answer, both as numbers; one computed test
 -- goes over the whole table, and one law, `case`, turns it into the equation of any row.
-use Prim.Native.Nat.{ℕ, _+_}
+use Prim.Native.Nat.{ℕ}
 use mathlib.Core.Bool.{Bool, true, _&&_}
 use mathlib.Core.List.{List, [], _∷_, _++_}
 use Rattle.octets.specs.Octets.{wordBytes, sameBytes}

@@ -1,5 +1,5 @@
 -- Document 01, "Small store, worked": the schema of the small store, and its calls.
-use Prim.Native.Nat.{ℕ, _+_, _-_}
+use Prim.Native.Nat.{ℕ, _-_}
 use mathlib.Core.List.{List, _∷_, _++_}
 use lib.ListN.{length}
 use Rattle.octets.specs.Octets.{wordBytes, zeros}

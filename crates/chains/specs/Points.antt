@@ -1,6 +1,6 @@
 -- Document 01, "Chains" and "The final 16": the adds and DELVD, which go over all paths of a set. `t` is the schema, `e` the variable
 -- set, `k` a path's number. What each path of the call speaks of comes from the keys: those of the area in an add, those stored in DELVD.
-use Prim.Native.Nat.{ℕ, _+_}
+use Prim.Native.Nat.{ℕ}
 use mathlib.Core.Bool.{Bool, cond, not, _||_}
 use mathlib.Core.List.{List, [], _∷_, _++_}
 use lib.Dec.{eqb}

@@ -1,6 +1,6 @@
 -- Document 01, "Where masters live", "Chains" and "The final 16": what ADD-M and DEL-M test and store on the ROOT chains.
 -- `e` is the master set, `h` the home of the key, `r` a record. All values come from the data base as it came.
-use Prim.Native.Nat.{ℕ, _+_}
+use Prim.Native.Nat.{ℕ}
 use mathlib.Core.Bool.{Bool, cond, not, _&&_, _||_}
 use mathlib.Core.List.{List, [], _∷_, _++_}
 use lib.Dec.{eqb}
