@@ -3,7 +3,7 @@
 use std::collections::BTreeMap;
 use std::rc::Rc;
 
-use yarugota_driver::{Answer, Batch, Change, Driver, Failure, Store};
+use yarugota_driver::{Answer, Batch, Change, Driver, Ender, Failure, Store};
 use yarugota_model::{Operation, Status};
 use yarugota_support::runs::Seen;
 use yarugota_support::{model, Answered, Call};
@@ -192,6 +192,11 @@ impl Beside {
         call.area = answered.area;
         base.copy_from_slice(&self.base);
         (answered.status, answered.reference)
+    }
+
+    /// Ends the store's process from another thread.
+    pub fn ender(&self) -> Ender {
+        self.driver.ender()
     }
 
     /// Whether the store has answered otherwise than the model.

@@ -33,29 +33,41 @@ impl fmt::Display for Difference {
             f,
             "the store and the model differ: suite {suite}, seed {seed}, step {step}"
         )?;
-        writeln!(f, "call {}", written(&self.call))?;
-        writeln!(f, "model: {}", told(&self.expected))?;
-        match &self.answer {
-            Ok(answer) => writeln!(f, "store: {}", told(answer))?,
-            Err(failure) => writeln!(f, "store: {failure}")?,
-        }
+        writeln!(f, "{}", self.both())?;
         writeln!(f, "again, from rust/:")?;
         writeln!(
             f,
             "  cargo run --release -p yarugota-differential -- --suite {suite} --seed {seed}"
         )?;
-        match self.write_down() {
-            Ok(file) => write!(
-                f,
-                "this call alone:\n  cargo run --release -p yarugota-differential -- --case {}",
-                file.display()
-            ),
-            Err(error) => write!(f, "the case could not be written down: {error}"),
-        }
+        write!(f, "{}", self.kept())
     }
 }
 
 impl Difference {
+    /// The call, and what each side made of it.
+    pub fn both(&self) -> String {
+        let store = match &self.answer {
+            Ok(answer) => told(answer),
+            Err(failure) => failure.to_string(),
+        };
+        format!(
+            "call {}\nmodel: {}\nstore: {store}",
+            written(&self.call),
+            told(&self.expected)
+        )
+    }
+
+    /// Writes this call alone into a file and tells how to make it again.
+    pub fn kept(&self) -> String {
+        match self.write_down() {
+            Ok(file) => format!(
+                "this call alone, from rust/:\n  cargo run --release -p yarugota-differential -- --case {}",
+                file.display()
+            ),
+            Err(error) => format!("the case could not be written down: {error}"),
+        }
+    }
+
     /// The case in the form of the vectors, with the model's answer.
     pub fn vector(&self) -> String {
         let mut after = self.base.clone();

@@ -16,3 +16,4 @@ mod targets;
 pub use beside::{Beside, Origin, Summary};
 pub use case::Difference;
 pub use direct::Direct;
+pub use targets::calls_on;

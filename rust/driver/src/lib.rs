@@ -14,4 +14,4 @@ mod process;
 
 pub use batch::{Answer, Batch, Change};
 pub use faults::{faults, Fault};
-pub use process::{Driver, Failure, Store};
+pub use process::{Driver, Ender, Failure, Store};

@@ -3,6 +3,7 @@
 use std::fmt;
 use std::io::{self, BufReader, Read, Write};
 use std::process::{Child, ChildStdin, ChildStdout, Command, Stdio};
+use std::sync::{Arc, Mutex, MutexGuard, PoisonError};
 
 use crate::{Answer, Batch, Change};
 
@@ -56,11 +57,29 @@ impl Store {
 /// A driver that is running.
 #[derive(Debug)]
 pub struct Driver {
-    child: Child,
+    child: Ender,
     requests: Option<ChildStdin>,
     answers: BufReader<ChildStdout>,
     /// Whether all of the last batch's answers have been read.
     idle: bool,
+}
+
+/// Ends a driver from another thread, as where a call takes too long. What the
+/// driver was asked then fails as [`Failure::Ended`].
+#[derive(Clone, Debug)]
+pub struct Ender {
+    child: Arc<Mutex<Child>>,
+}
+
+impl Ender {
+    pub fn end(&self) {
+        // One that has ended by itself cannot be ended, and need not be.
+        let _ = self.child().kill();
+    }
+
+    fn child(&self) -> MutexGuard<'_, Child> {
+        self.child.lock().unwrap_or_else(PoisonError::into_inner)
+    }
 }
 
 /// Why a batch was not answered to its end.
@@ -97,9 +116,15 @@ impl Driver {
         Driver {
             requests: child.stdin.take(),
             answers: BufReader::new(child.stdout.take().expect("the driver's output is a pipe")),
-            child,
+            child: Ender {
+                child: Arc::new(Mutex::new(child)),
+            },
             idle: true,
         }
+    }
+
+    pub fn ender(&self) -> Ender {
+        self.child.clone()
     }
 
     /// Makes all calls of a batch and hands the answers over one by one. After
@@ -180,8 +205,8 @@ impl Drop for Driver {
     fn drop(&mut self) {
         self.requests = None;
         if !self.idle {
-            let _ = self.child.kill();
+            self.child.end();
         }
-        let _ = self.child.wait();
+        let _ = self.child.child().wait();
     }
 }

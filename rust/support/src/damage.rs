@@ -28,26 +28,28 @@ pub fn rubbish(random: &mut Random, base: &mut [u8]) {
 }
 
 /// One byte anywhere, and the check as it was.
-fn flip_byte(random: &mut Random, base: &mut [u8]) {
+pub fn flip_byte(random: &mut Random, base: &mut [u8]) {
     let at = random.below(base.len());
     base[at] ^= 1 << random.below(8);
 }
 
-fn rubbish_block(random: &mut Random, base: &mut [u8]) {
+/// A whole block.
+pub fn rubbish_block(random: &mut Random, base: &mut [u8]) {
     let block = random.below(base.len() / BLOCK);
     let bytes = &mut base[block * BLOCK..(block + 1) * BLOCK];
     bytes.fill_with(|| random.byte());
     reseal(base, block);
 }
 
-fn change_state(random: &mut Random, schema: &Schema, base: &mut [u8]) {
+/// The state of a record: free, live, or neither.
+pub fn change_state(random: &mut Random, schema: &Schema, base: &mut [u8]) {
     let (_, offset) = some_record(random, schema);
     base[offset + STATE] = *random.pick(&[0, 1, 1, 2, 0xFF]);
     reseal(base, offset / BLOCK);
 }
 
 /// Any byte of a record: state, filler, pointer, key or D byte.
-fn change_byte(random: &mut Random, schema: &Schema, base: &mut [u8]) {
+pub fn change_byte(random: &mut Random, schema: &Schema, base: &mut [u8]) {
     let (entry, offset) = some_record(random, schema);
     let at = random.below(schema.entries[entry].record_length());
     base[offset + at] = random.byte();
@@ -55,7 +57,7 @@ fn change_byte(random: &mut Random, schema: &Schema, base: &mut [u8]) {
 }
 
 /// One record of a set over another.
-fn copy_record(random: &mut Random, schema: &Schema, base: &mut [u8]) {
+pub fn copy_record(random: &mut Random, schema: &Schema, base: &mut [u8]) {
     let (entry, from) = some_record(random, schema);
     let to = some_record_of(random, schema, entry);
     let length = schema.entries[entry].record_length();
@@ -64,7 +66,7 @@ fn copy_record(random: &mut Random, schema: &Schema, base: &mut [u8]) {
 }
 
 /// A pointer to anywhere in 0..R, or just above it, or far away.
-fn change_pointer(random: &mut Random, schema: &Schema, base: &mut [u8]) {
+pub fn change_pointer(random: &mut Random, schema: &Schema, base: &mut [u8]) {
     let (number, offset) = some_record(random, schema);
     let entry = &schema.entries[number];
     let at = offset + *random.pick(&pointers(entry));
@@ -88,7 +90,7 @@ fn some_target(random: &mut Random, schema: &Schema, entry: &Entry) -> u32 {
 }
 
 /// Where the pointers of a set's records are.
-fn pointers(entry: &Entry) -> Vec<usize> {
+pub fn pointers(entry: &Entry) -> Vec<usize> {
     match entry.kind {
         Kind::Master => {
             let linkages = 0..entry.paths_to_it;
@@ -102,7 +104,7 @@ fn pointers(entry: &Entry) -> Vec<usize> {
 }
 
 /// The entry and the offset of some record.
-fn some_record(random: &mut Random, schema: &Schema) -> (usize, usize) {
+pub fn some_record(random: &mut Random, schema: &Schema) -> (usize, usize) {
     let entry = random.below(schema.entries.len());
     (entry, some_record_of(random, schema, entry))
 }
@@ -112,7 +114,8 @@ fn some_record_of(random: &mut Random, schema: &Schema, entry: usize) -> usize {
     schema.layout.places[entry].offset(record as u32)
 }
 
-fn reseal(base: &mut [u8], block: usize) {
+/// Sets the check of a block right.
+pub fn reseal(base: &mut [u8], block: usize) {
     let bytes = &mut base[block * BLOCK..(block + 1) * BLOCK];
     seal(bytes, block as u32);
 }
