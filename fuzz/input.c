@@ -119,7 +119,8 @@ static void damage_schema(struct run *run, const uint8_t command[COMMAND])
     fit_base(run);
 }
 
-/* Kinds: a bit, a byte, a small pointer, words of one byte, words copied from elsewhere in the block, a block of one byte, a block from elsewhere. */
+/* Kinds: a bit, a byte, a small pointer, words of one byte (half of them blank keys), words copied from elsewhere in the block, a block
+ * of one byte, a block from elsewhere. */
 static void damage_block(struct run *run, uint8_t *block, const uint8_t command[COMMAND])
 {
     size_t at = (command[2] | (size_t)(command[3] & 1) << 8) % CHECK, start = at & ~(size_t)3;
@@ -135,7 +136,7 @@ static void damage_block(struct run *run, uint8_t *block, const uint8_t command[
         put_word(block + start, command[5] % 14);
         return;
     case 4:
-        memset(block + start, command[5], CHECK - start < 16 ? 4 : 4 + command[7] % 4 * 4);
+        memset(block + start, command[5] & 0x80 ? BLANK : command[5], CHECK - start < 16 ? 4 : 4 + command[7] % 4 * 4);
         return;
     case 5:
         memmove(block + start, block + command[5] / 4 * 4, CHECK - start < 64 ? CHECK - start : 64);
