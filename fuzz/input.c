@@ -9,6 +9,10 @@ enum { ENTRIES = 16, ENTRY = 48, SETS = 8, SLOTS = 16, SLOT = 8, BLANK = 0x20 };
 static const char operations[16][6] = {"FORMT", "SINON", "ADD-M", "DEL-M", "READM", "WRITM", "RQLOC", "RDNXT",
                                        "READV", "READR", "READD", "WRITV", "ADDVC", "ADDVB", "ADDVA", "DELVD"};
 
+/* A command's operation by its first byte, where that is no damage: each once, and the adds some times more, so that sets fill up. */
+static const uint8_t operation_of[32] = {0, 1, 2, 3, 4, 5, 6, 7, 8, 9, 10, 11, 12, 13, 14, 15,
+                                         0, 0, 0, 0, 2, 2, 2, 2, 2, 3, 12, 12, 12, 13, 14, 15};
+
 unsigned operation_number(const uint8_t op[5])
 {
     unsigned number = 0;
@@ -227,50 +231,53 @@ static void make_area(const struct run *run, const uint8_t *entry, unsigned name
     call->area_length = length + data;
 }
 
-/* Spoils what the numbers from 1 on stand for. */
+/* Another length for key or area, where there is room for it. */
+static size_t other_length(size_t length, size_t most, uint8_t with)
+{
+    switch (with % 5) {
+    case 0:
+        return 0;
+    case 1:
+    case 2:
+        return length < most ? length + 1 : length;
+    default:
+        return length > 0 ? length - 1 : 0;
+    }
+}
+
+/* Spoils one parameter, which the number from 0 to 9 says. */
 static void spoil(struct call *call, unsigned fault, uint8_t with)
 {
-    static const int change[] = {0, 1, -1, 4, -4};
-    int by = change[with % 5];
     switch (fault) {
+    case 0:
+        call->key_length = other_length(call->key_length, MOST_KEY, with);
+        return;
     case 1:
-        call->key_length += by < 0 && call->key_length < 4 ? 0 : (size_t)by;
+        call->area_length = other_length(call->area_length, MOST_AREA, with);
         return;
     case 2:
-        call->key_length = 0;
-        return;
-    case 3:
-        call->area_length += (by < 0 && call->area_length < 4) || call->area_length > MOST_AREA - 4 ? 0 : (size_t)by;
-        return;
-    case 4:
-        call->area_length = 0;
-        return;
-    case 5:
         call->area[with % (call->area_length + 1)] ^= 1;
         return;
-    case 6:
+    case 3:
         memset(call->area, BLANK, call->area_length);
         return;
-    case 7:
+    case 4:
         call->op[with % 5] ^= (uint8_t)(1 << with / 5 % 8);
         return;
-    case 8:
+    case 5:
         call->set[with % 4] ^= (uint8_t)(1 << with / 4 % 8);
         return;
-    case 9:
+    case 6:
         call->path[with % 8] ^= (uint8_t)(1 << with / 8 % 8);
         return;
-    case 10:
-        call->schema_length = (size_t)((int)call->schema_length + (with & 1 ? 1 : -(int)with));
+    case 7:
+        call->schema_length = with & 1 ? BLOCK + 1 : BLOCK - with;
         return;
-    case 11:
+    case 8:
         call->base_length -= call->base_length > with ? with : 0;
         return;
-    case 12:
+    case 9:
         call->base_length += with & 1 ? BLOCK : 1;
-        return;
-    default:
-        return;
     }
 }
 
@@ -296,7 +303,7 @@ void command_call(const struct run *run, const uint8_t command[COMMAND], struct 
     const uint8_t *entry = entry_of(run, number);
     unsigned slot = one_of(command[2], entry[5], 4);
     const uint8_t *path = entry + SLOTS + SLOT * slot;
-    plain_call(run, operations[command[0] & 15], call);
+    plain_call(run, operations[operation_of[command[0] & 31]], call);
     memcpy(call->set, entry, 4);
     memcpy(call->path, entry_of(run, path[2]), 4);
     memcpy(call->path + 4, "LK", 2);
@@ -306,5 +313,5 @@ void command_call(const struct run *run, const uint8_t command[COMMAND], struct 
     make_key(call->key, call->key_length, command[3]);
     make_area(run, entry, slot, command, call);
     if (command[6] >= 0xC0)
-        spoil(call, command[6] % 16, command[7]);
+        spoil(call, command[6] % 10, command[7]);
 }

@@ -11,11 +11,12 @@ use yarugota_support::schemas::Draft;
 use yarugota_support::{schemas, Answered, Call, Random, Trace};
 
 use crate::faults::{damaged, other_length, rubbish_schema};
-use crate::{Tally, Watch};
+use crate::watch::Watch;
+use crate::Tally;
 
 /// How calls go to the store.
-#[derive(Clone, Copy, Debug, PartialEq, Eq)]
-pub enum Pace {
+#[derive(Clone, Copy, PartialEq, Eq)]
+enum Pace {
     /// Many at once.
     Batches,
     /// Each by itself, so that it is clear which one brings the store down.
@@ -38,7 +39,7 @@ struct Life<'a> {
 }
 
 impl Load {
-    pub fn new(store: Store, pace: Pace, deadline: Duration) -> Load {
+    fn new(store: Store, pace: Pace, deadline: Duration) -> Load {
         let beside = Beside::new(store);
         let watch = Watch::new(beside.ender(), deadline);
         Load {
@@ -78,7 +79,7 @@ impl Load {
     }
 
     /// The life of one data base.
-    pub fn round(&mut self, seed: u64, steps: u64) {
+    fn round(&mut self, seed: u64, steps: u64) {
         self.beside.begin("load", seed);
         self.tally.rounds += 1;
         let mut trace = Trace::new(seed);
@@ -183,7 +184,7 @@ impl Load {
     }
 
     /// What was counted, or the first difference and whether the store was late.
-    pub fn finish(self) -> Result<(Tally, Summary), (Box<Difference>, bool)> {
+    fn finish(self) -> Result<(Tally, Summary), (Box<Difference>, bool)> {
         let finished = self.beside.finish();
         let late = self.watch.ended();
         match finished {
@@ -213,7 +214,7 @@ fn tell(difference: &Difference, late: bool, steps: u64, deadline: Duration) -> 
         false => "the store and the model differ".to_string(),
     };
     format!(
-        "{what}: seed {seed}, step {step}\n{}\nagain:\n  rust/load/run --seed {seed} --steps {steps} --calls 1\n{}",
+        "{what}: seed {seed}, call {step} of the round\n{}\nagain:\n  rust/load/run --seed {seed} --steps {steps} --calls 1\n{}",
         difference.both(),
         difference.kept()
     )

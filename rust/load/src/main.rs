@@ -35,7 +35,7 @@ fn main() -> ExitCode {
 fn asked(mut words: impl Iterator<Item = String>) -> Result<Asked, String> {
     let mut asked = Asked {
         seed: 1,
-        calls: 5_000_000,
+        calls: 10_000_000,
         steps: 2000,
     };
     while let Some(word) = words.next() {
