@@ -81,8 +81,8 @@ static void make_variable(uint8_t *schema, unsigned number, unsigned masters, co
     for (unsigned slot = 0; slot < entry[5]; slot++) {
         unsigned nibble = given[2 + slot / 2] >> (slot % 2 * 4) & 15;
         uint8_t *path = entry + SLOTS + SLOT * slot;
-        path[0] = nibble == 15 ? 'A' : (uint8_t)('A' + number);
-        path[1] = nibble == 15 ? 'A' : (uint8_t)('0' + slot);
+        path[0] = nibble >= 14 ? 'A' : (uint8_t)('A' + number);
+        path[1] = nibble >= 14 ? 'A' : (uint8_t)('0' + slot);
         path[2] = (uint8_t)((nibble & 3) % masters);
     }
 }
@@ -123,11 +123,30 @@ static void damage_schema(struct run *run, const uint8_t command[COMMAND])
     fit_base(run);
 }
 
+/* Mostly one of the first so many; now and then any. */
+static unsigned one_of(uint8_t which, unsigned count, unsigned most)
+{
+    return which < 0xF0 && count >= 1 && count <= most ? which % count : which % most;
+}
+
+/* Where the damage is: in one of the first words of some record, or anywhere. */
+static size_t damaged_byte(const struct run *run, const uint8_t command[COMMAND])
+{
+    if (command[0] & 3) {
+        unsigned number = one_of(command[1], run->schema[1] + run->schema[2], SETS);
+        size_t place = model_place(run->schema, BLOCK, number, 1 + command[2] % 14);
+        if (place < run->base_length)
+            return (place + command[3] % 48) % run->base_length;
+    }
+    size_t block = command[1] % (run->base_length / BLOCK);
+    return block * BLOCK + (command[2] | (size_t)(command[3] & 1) << 8) % CHECK;
+}
+
 /* Kinds: a bit, a byte, a small pointer, words of one byte (half of them blank keys), words copied from elsewhere in the block, a block
  * of one byte, a block from elsewhere. */
-static void damage_block(struct run *run, uint8_t *block, const uint8_t command[COMMAND])
+static void damage_block(struct run *run, uint8_t *block, size_t at, const uint8_t command[COMMAND])
 {
-    size_t at = (command[2] | (size_t)(command[3] & 1) << 8) % CHECK, start = at & ~(size_t)3;
+    size_t start = at & ~(size_t)3;
     switch (command[4] % 8) {
     case 0:
         block[at] ^= (uint8_t)(1 << (command[5] & 7));
@@ -153,19 +172,24 @@ static void damage_block(struct run *run, uint8_t *block, const uint8_t command[
     }
 }
 
+static void damage_base(struct run *run, const uint8_t command[COMMAND])
+{
+    if (run->base_length == 0)
+        return;
+    size_t at = damaged_byte(run, command), number = at / BLOCK;
+    uint8_t *block = run->base + number * BLOCK;
+    damage_block(run, block, at % BLOCK, command);
+    if (command[6] & 3)
+        seal(block, (uint32_t)number);
+}
+
 int command_damages(struct run *run, const uint8_t command[COMMAND])
 {
     switch (command[0] & 31) {
     case 16:
     case 17:
     case 18:
-        if (run->base_length != 0) {
-            size_t number = command[1] % (run->base_length / BLOCK);
-            uint8_t *block = run->base + number * BLOCK;
-            damage_block(run, block, command);
-            if (command[6] & 3)
-                seal(block, (uint32_t)number);
-        }
+        damage_base(run, command);
         return 1;
     case 19:
         damage_schema(run, command);
@@ -259,7 +283,7 @@ static void spoil(struct call *call, unsigned fault, uint8_t with)
         call->area[with % (call->area_length + 1)] ^= 1;
         return;
     case 3:
-        memset(call->area, BLANK, call->area_length);
+        memset(call->area, BLANK, with % (call->area_length + 1));
         return;
     case 4:
         call->op[with % 5] ^= (uint8_t)(1 << with / 5 % 8);
@@ -288,12 +312,6 @@ void plain_call(const struct run *run, const char *op, struct call *call)
     call->reference = 7;
     call->schema_length = BLOCK;
     call->base_length = run->base_length;
-}
-
-/* Mostly one of the first so many; now and then any. */
-static unsigned one_of(uint8_t which, unsigned count, unsigned most)
-{
-    return which < 0xF0 && count >= 1 && count <= most ? which % count : which % most;
 }
 
 /* Command: operation, set, path, key, other keys, reference, fault, D byte. */

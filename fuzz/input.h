@@ -43,4 +43,7 @@ unsigned operation_number(const uint8_t op[5]);
 /* T of a schema, or 0; the model's. */
 uint32_t model_blocks(const uint8_t *schema, size_t schema_length);
 
+/* The byte of the base where a record begins, or SIZE_MAX; the model's. */
+size_t model_place(const uint8_t *schema, size_t schema_length, size_t entry, uint32_t record);
+
 #endif

@@ -45,3 +45,21 @@ pub unsafe extern "C" fn model_blocks(schema: *const u8, schema_len: usize) -> u
     let schema = Schema::decode(from_raw_parts(schema, schema_len));
     schema.map_or(0, |schema| schema.blocks() as u32)
 }
+
+/// The byte of the data base where a record begins; the largest number where
+/// there is no such record.
+///
+/// # Safety
+///
+/// The pointer is not null and leads to so many bytes.
+#[no_mangle]
+pub unsafe extern "C" fn model_place(
+    schema: *const u8,
+    schema_len: usize,
+    entry: usize,
+    record: u32,
+) -> usize {
+    let schema = Schema::decode(from_raw_parts(schema, schema_len));
+    let place = schema.and_then(|schema| schema.record_offset(entry, record));
+    place.unwrap_or(usize::MAX)
+}
