@@ -142,8 +142,8 @@ static size_t damaged_byte(const struct run *run, const uint8_t command[COMMAND]
     return block * BLOCK + (command[2] | (size_t)(command[3] & 1) << 8) % CHECK;
 }
 
-/* Kinds: a bit, a byte, a small pointer, words of one byte (half of them blank keys), words copied from elsewhere in the block, a block
- * of one byte, a block from elsewhere. */
+/* Kinds: a bit, a byte, a small pointer, no pointer or one to the record itself, words of one byte (half of them blank keys), words copied
+ * from elsewhere in the block, a block of one byte, a block from elsewhere. */
 static void damage_block(struct run *run, uint8_t *block, size_t at, const uint8_t command[COMMAND])
 {
     size_t start = at & ~(size_t)3;
@@ -155,8 +155,10 @@ static void damage_block(struct run *run, uint8_t *block, size_t at, const uint8
         block[at] = command[5];
         return;
     case 2:
-    case 3:
         put_word(block + start, command[5] % 14);
+        return;
+    case 3:
+        put_word(block + start, command[5] & 1 ? 1 + command[2] % 14 : 0);
         return;
     case 4:
         memset(block + start, command[5] & 0x80 ? BLANK : command[5], CHECK - start < 16 ? 4 : 4 + command[7] % 4 * 4);
@@ -301,7 +303,8 @@ static void spoil(struct call *call, unsigned fault, uint8_t with)
         call->base_length -= call->base_length > with ? with : 0;
         return;
     case 9:
-        call->base_length += with & 1 ? BLOCK : 1;
+        if (call->base_length <= (size_t)MOST_BLOCKS * BLOCK)
+            call->base_length += with & 1 ? BLOCK : 1;
     }
 }
 
@@ -314,7 +317,7 @@ void plain_call(const struct run *run, const char *op, struct call *call)
     call->base_length = run->base_length;
 }
 
-/* Command: operation, set, path, key, other keys, reference, fault, D byte. */
+/* Command: operation, set, path, key, other keys, reference, faults (two at most, for the order of the tests), D byte. */
 void command_call(const struct run *run, const uint8_t command[COMMAND], struct call *call)
 {
     unsigned number = one_of(command[1], run->schema[1] + run->schema[2], SETS);
@@ -332,4 +335,6 @@ void command_call(const struct run *run, const uint8_t command[COMMAND], struct 
     make_area(run, entry, slot, command, call);
     if (command[6] >= 0xC0)
         spoil(call, command[6] % 10, command[7]);
+    if (command[6] >= 0xE0)
+        spoil(call, command[7] % 10, command[6]);
 }
