@@ -1,4 +1,5 @@
-//! A model of document 01 in plain Rust, written from the document alone.
+//! A model of document 01 in plain Rust, written from the document and, where it
+//! leaves room, from docs/DECISIONS.md.
 //!
 //! It is meant to be read beside the document: the modules follow its
 //! sections and use its words. Speed comes second. The model is worth
