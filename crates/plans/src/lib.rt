@@ -1,4 +1,4 @@
-// What a call stores, and how it is committed: all of it, or nothing. A plan is made while reading, from the data base as it came.
+// What a call stores: a plan, made while reading, from the data base as it came. The room `commit` stores all of it, or nothing.
 use records::Link;
 use terms::RecordNo;
 use terms::Status;

@@ -1,4 +1,4 @@
-// The final 16 of the adds and DELVD, path by path: uneven ends, and neighbours that are none of the chain's.
+// The final 16 of the calls on points, path by path: uneven ends, and neighbours that are none of the chain's.
 use super::search::key_at;
 use records::Link;
 use records::fields::is_live;
