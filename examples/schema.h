@@ -7,14 +7,14 @@
 #ifndef SCHEMA_H
 #define SCHEMA_H
 
-#include <assert.h>
 #include <stdint.h>
+#include <stdio.h>
+#include <stdlib.h>
 #include <string.h>
 
 #include "yarugota.h"
 
 enum {
-    SCHEMA_BLOCK = 512,
     SCHEMA_MASTERS = 1, /* the byte that counts the master sets */
     SCHEMA_VARIABLES = 2,
     SCHEMA_ENTRIES = 16, /* where the first entry begins */
@@ -26,10 +26,19 @@ enum {
     SCHEMA_MOST = 4
 };
 
-/* A block of 512 bytes with no set in it. */
+/* A fault of the program ends it, in every build: the next byte to be written might lie behind the block. */
+static inline void schema_must(int kept, const char *rule)
+{
+    if (kept)
+        return;
+    fprintf(stderr, "schema.h: %s\n", rule);
+    abort();
+}
+
+/* A block with no set in it. */
 static inline void schema_begin(uint8_t *schema)
 {
-    memset(schema, 0, SCHEMA_BLOCK);
+    memset(schema, 0, YARUGOTA_BLOCK);
     schema[0] = 1;
 }
 
@@ -53,7 +62,8 @@ static inline void schema_set(uint8_t *entry, const char *name, uint8_t kind, ui
 /* One more master set: keys of `key` bytes (4, 8, 12 or 16), `data` bytes of data, room for `records` of them. */
 static inline void schema_master(uint8_t *schema, const char *name, uint8_t key, uint16_t data, uint32_t records)
 {
-    assert(schema[SCHEMA_MASTERS] < SCHEMA_MOST && schema[SCHEMA_VARIABLES] == 0);
+    schema_must(schema[SCHEMA_MASTERS] < SCHEMA_MOST, "at most four master sets");
+    schema_must(schema[SCHEMA_VARIABLES] == 0, "master sets come first");
     uint8_t *entry = schema_entry(schema, schema[SCHEMA_MASTERS]++);
     schema_set(entry, name, 1, data, records);
     entry[SCHEMA_KEY] = key;
@@ -62,7 +72,7 @@ static inline void schema_master(uint8_t *schema, const char *name, uint8_t key,
 /* One more variable set. It wants at least one path. */
 static inline void schema_variable(uint8_t *schema, const char *name, uint16_t data, uint32_t records)
 {
-    assert(schema[SCHEMA_VARIABLES] < SCHEMA_MOST);
+    schema_must(schema[SCHEMA_VARIABLES] < SCHEMA_MOST, "at most four variable sets");
     uint8_t *entry = schema_entry(schema, schema[SCHEMA_MASTERS] + schema[SCHEMA_VARIABLES]++);
     schema_set(entry, name, 2, data, records);
 }
@@ -70,9 +80,9 @@ static inline void schema_variable(uint8_t *schema, const char *name, uint16_t d
 /* One more path of the last variable set, with the letters xx, to the master set of this entry number. */
 static inline void schema_path(uint8_t *schema, const char *xx, uint8_t master)
 {
-    assert(schema[SCHEMA_VARIABLES] > 0);
+    schema_must(schema[SCHEMA_VARIABLES] > 0, "a path comes after its variable set");
     uint8_t *entry = schema_entry(schema, schema[SCHEMA_MASTERS] + schema[SCHEMA_VARIABLES] - 1);
-    assert(entry[SCHEMA_PATHS] < SCHEMA_MOST);
+    schema_must(entry[SCHEMA_PATHS] < SCHEMA_MOST, "at most four paths of a variable set");
     uint8_t *slot = entry + SCHEMA_SLOTS + entry[SCHEMA_PATHS]++ * SCHEMA_SLOT;
     memcpy(slot, xx, 2);
     slot[2] = master;
@@ -81,7 +91,7 @@ static inline void schema_path(uint8_t *schema, const char *xx, uint8_t master)
 /* The check, last: whatever is changed afterwards makes it false. */
 static inline void schema_end(uint8_t *schema)
 {
-    yarugota_block_seal(schema, SCHEMA_BLOCK, 0);
+    yarugota_block_seal(schema, YARUGOTA_BLOCK, 0);
 }
 
 #endif

@@ -2,7 +2,8 @@
  *
  * A data base is a buffer of 512-byte blocks, its schema one block more. The caller owns both, and hands them over with
  * their lengths. Buffers may have any length and hold anything: what is bad is refused by the answer. A pointer must
- * not be null, also where its length is 0. No function keeps a pointer, takes memory or has state of its own.
+ * not be null, also where its length is 0. No function keeps a pointer, takes memory or has state of its own: several
+ * threads may call at once, each on a data base and an area of its own.
  *
  * To begin: make a schema and set its check by yarugota_block_seal (number 0), learn by yarugota_schema_blocks how many
  * blocks the data base has, and call FORMT for a new data base or SINON for one that was kept; then the other calls.
@@ -19,6 +20,9 @@
 #ifdef __cplusplus
 extern "C" {
 #endif
+
+/* Bytes of a block. */
+#define YARUGOTA_BLOCK 512
 
 /* The status of a call. Of several faults the one tested first is told, which is not always the lowest number. */
 enum yarugota_status {
@@ -64,8 +68,8 @@ static inline const char *yarugota_code(enum yarugota_status status)
  *   key        the control key: that of the master which the call is about
  *   area       the record: a master's key and its D bytes of data, or a variable record's keys in path order and its D
  *              bytes of data
- *   schema     the schema's block, 512 bytes
- *   base       the data base, 512 bytes for each block
+ *   schema     the schema's block, YARUGOTA_BLOCK bytes
+ *   base       the data base, YARUGOTA_BLOCK bytes for each block
  *
  * On masters, with set and key; all but DEL-M and RQLOC with area:
  *   ADD-M  adds a master                      DEL-M  deletes one that has no variable records
@@ -91,7 +95,7 @@ static inline const char *yarugota_code(enum yarugota_status status)
  *   of RQLOC, the home; of DELVD, the record before on the path, or LKxx where there was none
  *   of the others, and of every call that is refused (status not 0), the reference as it was given
  * A refused call leaves area and data base as they were. A read that gives a record replaces the whole area; no other
- * call changes it. The buffers must not overlap. */
+ * call changes it. The buffers must not overlap: the key must not point into the area either. */
 uint64_t yarugota_call(const uint8_t *op /* 5 bytes */, const uint8_t *set /* 4 bytes */, uint32_t reference,
                        const uint8_t *path /* 8 bytes */, const uint8_t *key, size_t key_len, uint8_t *area,
                        size_t area_len, const uint8_t *schema, size_t schema_len, uint8_t *base, size_t base_len);
@@ -103,8 +107,11 @@ uint64_t yarugota_call(const uint8_t *op /* 5 bytes */, const uint8_t *set /* 4 
 /* T, the blocks that all sets of the schema take together (1..4096); 0 where the schema breaks a rule (SCHM). */
 uint32_t yarugota_schema_blocks(const uint8_t *schema, size_t schema_len);
 
+/* No place in a data base: 2^64 - 1. */
+#define YARUGOTA_NOWHERE UINT64_MAX
+
 /* The byte of the data base at which a record begins: entries of the schema are counted from 0, masters first, records
- * from 1. 2^64 - 1 where the schema breaks a rule, has no such entry, or the entry no such record. */
+ * from 1. YARUGOTA_NOWHERE where the schema breaks a rule, has no such entry, or the entry no such record. */
 uint64_t yarugota_record_place(const uint8_t *schema, size_t schema_len, uint32_t entry, uint32_t record);
 
 /* 1 where the buffer is one block of 512 bytes whose check is true for this block number; else 0. The schema's block

@@ -6,7 +6,7 @@
 #include "../schema.h"
 #include "yarugota.h"
 
-static uint8_t schema[512], base[2 * 512]; /* one block of bottles, one of points */
+static uint8_t schema[YARUGOTA_BLOCK], base[2 * YARUGOTA_BLOCK]; /* one block of bottles, one of points */
 
 /* One call for bottle B001 and the path of its points. An area is a record's key and data. */
 static uint64_t call(const char *op, const char *set, uint32_t reference, char *area)

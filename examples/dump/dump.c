@@ -1,7 +1,8 @@
 /* dump SCHEMA BASE: prints a schema's block and the blocks of its data base, field by field: where in the block, which
  * bytes, what they mean. It stands for a program that reads blocks on its own: it is written from docs/FORMAT.md and is
  * not linked with the library. Files of a wrong length, a schema that breaks a rule and a block with a false check are
- * refused; whatever else the bytes say is shown. */
+ * refused, with exit status 1; whatever else the bytes say is shown. What it cannot read or print gives exit status 2.
+ */
 #include <inttypes.h>
 #include <stdarg.h>
 #include <stdlib.h>
@@ -11,6 +12,7 @@
 enum { ROW = 8 }; /* bytes shown on one line */
 
 /* One line: the bytes from `at` on, and what they mean. What is longer than a row must be zero. */
+__attribute__((format(printf, 4, 5)))
 static void line(const uint8_t *block, unsigned at, unsigned length, const char *meaning, ...)
 {
     char bytes[3 * ROW + 1] = "";
@@ -176,10 +178,14 @@ static void load(const char *name, uint8_t *buffer, size_t length)
     FILE *file = fopen(name, "rb");
     if (file == NULL) {
         fprintf(stderr, "%s: cannot be opened\n", name);
-        exit(1);
+        exit(2);
     }
     size_t got = fread(buffer, 1, length + 1, file);
-    if (ferror(file) || fclose(file) != 0 || got != length) {
+    if (ferror(file) || fclose(file) != 0) {
+        fprintf(stderr, "%s: cannot be read\n", name);
+        exit(2);
+    }
+    if (got != length) {
         fprintf(stderr, "%s: not %zu bytes\n", name, length);
         exit(1);
     }
@@ -191,7 +197,7 @@ int main(int argc, char **argv)
     struct store store;
     if (argc != 3) {
         fprintf(stderr, "usage: dump SCHEMA BASE\n");
-        return 1;
+        return 2;
     }
     load(argv[1], schema, BLOCK);
     if (!read_schema(&store, schema))
@@ -206,5 +212,5 @@ int main(int argc, char **argv)
     for (unsigned i = 0; i < store.sets; i++)
         for (unsigned k = 0; k < store.set[i].blocks; k++)
             dump_block(&store, &store.set[i], k, base + (size_t)(store.set[i].first + k) * BLOCK);
-    return fflush(stdout) == 0 ? 0 : 1;
+    return fflush(stdout) == 0 ? 0 : 2;
 }

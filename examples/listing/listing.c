@@ -8,9 +8,9 @@
 #include "../schema.h"
 #include "yarugota.h"
 
-enum { BLOCK = 512, BLOCKS = 2, AREA = 8 };
+enum { BLOCKS = 2, AREA = 8 };
 
-static uint8_t schema[BLOCK], base[BLOCKS * BLOCK];
+static uint8_t schema[YARUGOTA_BLOCK], base[BLOCKS * YARUGOTA_BLOCK];
 
 struct line {
     const char *op, *set;

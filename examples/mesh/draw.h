@@ -170,9 +170,12 @@ static void page(FILE *file, const struct sheet *s)
                        : "Each dot is a measured point, a record in the chain of its bottle. The type keeps its shape.");
 }
 
+/* The picture. What is enlarged is the topmost rings, which every bottle has. */
 static void draw(FILE *file, const struct sheet *s)
 {
-    int neck = s->mesh.rings - MIN_RINGS;
+    enum { NECK_RINGS = 8 };
+    _Static_assert((int)MIN_RINGS >= (int)NECK_RINGS, "every bottle has a neck to enlarge");
+    int neck = s->mesh.rings - NECK_RINGS;
     const struct view all = {"small", 180, 388, node(&s->whole, 0).height, 16};
     const struct view near = {"large", 576, 290, node(&s->whole, neck * s->mesh.points).height, 48};
     page(file, s);

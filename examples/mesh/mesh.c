@@ -13,11 +13,11 @@
 #include "draw.h"
 #include "yarugota.h"
 
-enum { BLOCK = 512, KEY = 4, BOTTLE_DATA = 8, BOTTLE_RECORDS = 7, POINTS_ENTRY = 1 };
+enum { KEY = 4, BOTTLE_DATA = 8, BOTTLE_RECORDS = 7, POINTS_ENTRY = 1 };
 enum { BOTTLE_AREA = KEY + BOTTLE_DATA, POINT_AREA = KEY + POINT_DATA };
 
 struct store {
-    uint8_t schema[BLOCK];
+    uint8_t schema[YARUGOTA_BLOCK];
     uint8_t *base;
     size_t length;
 };
@@ -25,7 +25,7 @@ struct store {
 static uint64_t call(struct store *s, const char *op, const char *set, uint32_t reference, const char *key, uint8_t *area, size_t length)
 {
     return yarugota_call((const uint8_t *)op, (const uint8_t *)set, reference, (const uint8_t *)"BOTLLKPT", (const uint8_t *)key, KEY,
-                         area, length, s->schema, BLOCK, s->base, s->length);
+                         area, length, s->schema, YARUGOTA_BLOCK, s->base, s->length);
 }
 
 /* A call that this program has no answer to when it is refused. Gives the reference. */
@@ -81,19 +81,19 @@ static void format(struct store *s)
     schema_variable(s->schema, "PNTS", POINT_DATA, POINT_RECORDS);
     schema_path(s->schema, "PT", 0);
     schema_end(s->schema);
-    s->length = (size_t)BLOCK * yarugota_schema_blocks(s->schema, BLOCK);
+    s->length = (size_t)YARUGOTA_BLOCK * yarugota_schema_blocks(s->schema, YARUGOTA_BLOCK);
     s->base = room(s->length);
     must(s, "FORMT", "    ", 0, "    ", &none, 0);
 }
 
 /* The bottle's points in ring order. After each ring comes a point of another bottle, so that a bottle's records are not all neighbours
- * and the sweep meets points of three. */
+ * and the sweep meets points of three. The others' keys have a small letter, which no key of a file has. */
 static void fill(struct store *s, const struct shape *shape)
 {
-    static const char *const others[] = {"B002", "K117"};
+    static const char *const others[] = {"b002", "k117"};
     add_bottle(s, shape->key, shape->rings, shape->points);
     for (int i = 0; i < 2; i++)
-        add_bottle(s, others[i], shape->rings / 2, 1);
+        add_bottle(s, others[i], (shape->rings + 1 - i) / 2, 1);
     for (int ring = 0; ring < shape->rings; ring++) {
         for (int place = 0; place < shape->points; place++)
             add_point(s, shape->key, point_of(shape, ring, place));
@@ -181,6 +181,17 @@ static struct store copied(const struct store *s)
     return copy;
 }
 
+/* The byte of the base at which a point's record begins. */
+static uint64_t place_of(const struct store *s, uint32_t record)
+{
+    uint64_t place = yarugota_record_place(s->schema, YARUGOTA_BLOCK, POINTS_ENTRY, record);
+    if (place == YARUGOTA_NOWHERE) {
+        fprintf(stderr, "there is no point %" PRIu32 "\n", record);
+        exit(1);
+    }
+    return place;
+}
+
 /* Lets the point before this one skip it, and sets the block's check anew: only the chain is wrong, no block is. The point stands in a
  * ring of the neck, under the type. */
 static void skip(struct store *s, const struct shape *shape)
@@ -189,9 +200,9 @@ static void skip(struct store *s, const struct shape *shape)
     struct chain c;
     int ring = shape->rings - TYPE_RING + 1, place = shape->points / 2, number = ring * shape->points + place;
     read_path(s, "READV", shape->key, &c);
-    uint64_t record = yarugota_record_place(s->schema, BLOCK, POINTS_ENTRY, c.record[number - 1]), block = record / BLOCK;
+    uint64_t record = place_of(s, c.record[number - 1]), block = record / YARUGOTA_BLOCK;
     number_put(s->base + record + NEXT, c.record[number + 1]);
-    yarugota_block_seal(s->base + block * BLOCK, BLOCK, (uint32_t)block);
+    yarugota_block_seal(s->base + block * YARUGOTA_BLOCK, YARUGOTA_BLOCK, (uint32_t)block);
     printf("a copy, where next of record %" PRIu32 " skips record %" PRIu32 ": ring %d, point %d\n", c.record[number - 1],
            c.record[number], ring + 1, place + 1);
 }

@@ -79,6 +79,8 @@ static const char *shape_read(FILE *file, struct shape *s, int *line)
         if (wrong != NULL)
             return wrong;
     }
+    if (ferror(file))
+        return "the file cannot be read";
     return s->rings < MIN_RINGS ? "too few rings" : NULL;
 }
 
