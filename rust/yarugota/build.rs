@@ -1,6 +1,6 @@
 //! Links the proved library in where it is for this processor: on x86-64 the
 //! one that `rt staticlib store` writes, or any that
-//! `YARUGOTA_NATIVE_ARCHIVE` names.
+//! `YARUGOTA_NATIVE_ARCHIVE` names, which must be there.
 
 use std::env;
 use std::path::PathBuf;
@@ -26,8 +26,14 @@ fn main() {
 }
 
 fn archive() -> Option<PathBuf> {
-    if let Ok(named) = env::var("YARUGOTA_NATIVE_ARCHIVE") {
-        return Some(PathBuf::from(named));
+    if let Some(named) = env::var_os("YARUGOTA_NATIVE_ARCHIVE") {
+        let named = PathBuf::from(named);
+        let good = named.is_absolute() && named.is_file();
+        assert!(
+            good,
+            "YARUGOTA_NATIVE_ARCHIVE is not the whole path of an archive: {named:?}"
+        );
+        return Some(named);
     }
     let processor = env::var("CARGO_CFG_TARGET_ARCH").expect("cargo names the processor");
     let package = env::var("CARGO_MANIFEST_DIR").expect("cargo names the package's directory");

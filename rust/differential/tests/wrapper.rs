@@ -40,19 +40,35 @@ fn the_header_has_the_codes_in_their_order() {
     assert_eq!(listed, Status::ALL.map(|status| status.code()));
 }
 
-const OPERATIONS: [yarugota::Operation; 16] = {
-    use yarugota::Operation::*;
-    [
-        Formt, Sinon, AddM, DelM, Readm, Writm, Rqloc, Rdnxt, Readv, Readr, Readd, Writv, Addvc,
-        Addvb, Addva, Delvd,
-    ]
-};
+#[test]
+fn operations_are_named_as_in_the_model() {
+    let ours = yarugota::Operation::ALL.map(|one| one.name());
+    assert_eq!(ours, Operation::ALL.map(|one| one.name()));
+}
+
+#[test]
+fn the_header_has_the_length_of_a_block() {
+    let header = include_str!("../../../include/yarugota.h");
+    let line = format!("#define YARUGOTA_BLOCK {}", yarugota_model::BLOCK);
+    assert!(header.lines().any(|text| text == line), "{line}");
+    assert_eq!(yarugota::BLOCK, yarugota_model::BLOCK);
+}
+
+#[test]
+fn an_answer_is_done_or_refused() {
+    let reference = Reference::number(7);
+    for status in yarugota::Status::ALL {
+        let answer = yarugota::Answer { status, reference };
+        let expected = match status {
+            yarugota::Status::Done => Ok(reference),
+            refused => Err(refused),
+        };
+        assert_eq!(answer.done(), expected);
+    }
+}
 
 #[test]
 fn calls_go_over_unchanged() {
-    for (ours, other) in OPERATIONS.into_iter().zip(Operation::ALL) {
-        assert_eq!(ours.name(), other.name());
-    }
     let mut random = Random::new(11);
     let bytes = schemas::small(&mut random).encode();
     let schema = Schema::decode(&bytes).expect("a schema that keeps every rule");
@@ -61,7 +77,8 @@ fn calls_go_over_unchanged() {
     yarugota_model::format(&mut base);
     for _ in 0..300 {
         let call = maker.likely(&mut random, &base);
-        let operation = OPERATIONS.into_iter().find(|one| *one.name() == call.op);
+        let mut known = yarugota::Operation::ALL.into_iter();
+        let operation = known.find(|one| *one.name() == call.op);
         let mut area = call.area.clone();
         let mut ours = base.clone();
         let given = yarugota::Call {

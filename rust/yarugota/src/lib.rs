@@ -6,7 +6,7 @@
 //! [`Status`]. [`Schema`] helps to write a schema.
 //!
 //! ```
-//! use yarugota::{call, Call, Operation, PathName, Reference, Schema, SetName, Status};
+//! use yarugota::{call, Call, Operation, PathName, Reference, Schema, SetName, Status, BLOCK};
 //!
 //! // The small store of document 01: bottles, and points along one path.
 //! let bottles = SetName(*b"BOTL");
@@ -14,30 +14,29 @@
 //! let path = PathName(*b"BOTLLKPT");
 //! let sets = Schema::new().master(bottles, 4, 4, 5).variable(points, 4, 6, &[path]);
 //! let schema = sets.block();
-//! let mut base = vec![0; 512 * sets.blocks()];
+//! let mut base = vec![0; BLOCK * sets.blocks()];
 //!
-//! let formatted = call(&Call::new(Operation::Formt), &mut [], &schema, &mut base);
-//! assert_eq!(formatted.status, Status::Done);
+//! call(&Call::new(Operation::Formt), &mut [], &schema, &mut base).done()?;
 //!
 //! let bottle = Call { set: bottles, key: b"B001", ..Call::new(Operation::AddM) };
-//! let added = call(&bottle, &mut b"B001NECK".to_owned(), &schema, &mut base);
-//! assert_eq!(added.status, Status::Done);
+//! call(&bottle, &mut b"B001NECK".to_owned(), &schema, &mut base).done()?;
 //!
 //! let point = Call { set: points, path, key: b"B001", ..Call::new(Operation::Addvc) };
-//! let added = call(&point, &mut b"B001p001".to_owned(), &schema, &mut base);
-//! assert_eq!(added.reference, Reference::number(1));
+//! let added = call(&point, &mut b"B001p001".to_owned(), &schema, &mut base).done()?;
+//! assert_eq!(added, Reference::number(1));
 //!
 //! // From the first point on.
 //! let mut area = [0; 8];
 //! let first = Call { operation: Operation::Readv, reference: path.link(), ..point };
-//! let read = call(&first, &mut area, &schema, &mut base);
-//! assert_eq!((read.reference, &area), (Reference::number(1), b"B001p001"));
-//! let next = Call { reference: read.reference, ..first };
-//! assert_eq!(call(&next, &mut area, &schema, &mut base).reference, Reference::END);
+//! let read = call(&first, &mut area, &schema, &mut base).done()?;
+//! assert_eq!((read, &area), (Reference::number(1), b"B001p001"));
+//! let next = Call { reference: read, ..first };
+//! assert_eq!(call(&next, &mut area, &schema, &mut base).done(), Ok(Reference::END));
 //!
 //! // A bottle with points stays.
 //! let gone = Call { operation: Operation::DelM, ..bottle };
-//! assert_eq!(call(&gone, &mut [], &schema, &mut base).status, Status::Imdl);
+//! assert_eq!(call(&gone, &mut [], &schema, &mut base).done(), Err(Status::Imdl));
+//! # Ok::<(), Status>(())
 //! ```
 //!
 //! The proved library is for x86-64. On such a processor it is linked in; on
@@ -59,6 +58,10 @@ pub use raw::LINKED;
 pub use reference::Reference;
 pub use schema::Schema;
 pub use status::Status;
+
+/// Bytes of a block. The schema is one block, a data base as many as
+/// [`Schema::blocks`] tells.
+pub const BLOCK: usize = 512;
 
 /// What a call is given, apart from its buffers. A parameter that the
 /// operation does not use may hold anything.
@@ -87,10 +90,22 @@ impl Call<'_> {
 
 /// What a call came to.
 #[derive(Clone, Copy, Debug, PartialEq, Eq)]
+#[must_use = "the call may have been refused"]
 pub struct Answer {
     pub status: Status,
     /// Of a refused call, the reference that was given.
     pub reference: Reference,
+}
+
+impl Answer {
+    /// The reference of a call that is done, or the status of a refused one;
+    /// so an `Err` is never [`Status::Done`].
+    pub fn done(self) -> Result<Reference, Status> {
+        match self.status {
+            Status::Done => Ok(self.reference),
+            refused => Err(refused),
+        }
+    }
 }
 
 /// Makes one call. A refused call leaves area and data base as they were; a

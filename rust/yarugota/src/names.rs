@@ -40,7 +40,19 @@ impl PathName {
     }
 }
 
+impl fmt::Display for SetName {
+    fn fmt(&self, f: &mut fmt::Formatter) -> fmt::Result {
+        write!(f, "{}", self.0.escape_ascii())
+    }
+}
+
 impl fmt::Debug for SetName {
+    fn fmt(&self, f: &mut fmt::Formatter) -> fmt::Result {
+        write!(f, "{self}")
+    }
+}
+
+impl fmt::Display for PathName {
     fn fmt(&self, f: &mut fmt::Formatter) -> fmt::Result {
         write!(f, "{}", self.0.escape_ascii())
     }
@@ -48,6 +60,6 @@ impl fmt::Debug for SetName {
 
 impl fmt::Debug for PathName {
     fn fmt(&self, f: &mut fmt::Formatter) -> fmt::Result {
-        write!(f, "{}", self.0.escape_ascii())
+        write!(f, "{self}")
     }
 }

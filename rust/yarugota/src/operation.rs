@@ -40,6 +40,26 @@ pub enum Operation {
 }
 
 impl Operation {
+    /// All of them.
+    pub const ALL: [Operation; 16] = [
+        Operation::Formt,
+        Operation::Sinon,
+        Operation::AddM,
+        Operation::DelM,
+        Operation::Readm,
+        Operation::Writm,
+        Operation::Rqloc,
+        Operation::Rdnxt,
+        Operation::Readv,
+        Operation::Readr,
+        Operation::Readd,
+        Operation::Writv,
+        Operation::Addvc,
+        Operation::Addvb,
+        Operation::Addva,
+        Operation::Delvd,
+    ];
+
     /// The five bytes that name it.
     pub const fn name(self) -> &'static [u8; 5] {
         match self {

@@ -74,7 +74,7 @@ pub fn call(
 
     thread_local! {
         /// One for each thread, started by its first call.
-        static DRIVER: RefCell<Driver> = RefCell::new(Driver::start(Store::chosen()));
+        static DRIVER: RefCell<Driver> = RefCell::new(Driver::start(Store::Proved));
     }
 
     let mut batch = Batch::new();

@@ -13,6 +13,7 @@ impl Reference {
     /// A read found no such record.
     pub const END: Reference = Reference(0x454E_442E);
 
+    /// A record number. Each set counts its records from 1; 0 begins a sweep.
     pub const fn number(number: u32) -> Reference {
         Reference(number)
     }
@@ -39,10 +40,13 @@ impl Reference {
         }
     }
 
+    /// As the C entry takes it: the number, or the four characters from the
+    /// highest byte down.
     pub const fn bits(self) -> u32 {
         self.0
     }
 
+    /// From such bits, whatever they are: the store judges them.
     pub const fn from_bits(bits: u32) -> Reference {
         Reference(bits)
     }

@@ -1,8 +1,7 @@
 //! A schema written set by set.
 
-use crate::{PathName, SetName};
+use crate::{PathName, SetName, BLOCK};
 
-const BLOCK: usize = 512;
 /// What a block holds before its check.
 const ROOM: u64 = 508;
 const MOST_BLOCKS: u64 = 4096;

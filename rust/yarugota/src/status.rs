@@ -11,7 +11,8 @@ pub enum Status {
     Schm,
     /// The data base's length is wrong.
     Size,
-    /// The operation is not known.
+    /// The operation is not known. No call of this wrapper is answered so: an
+    /// [`Operation`](crate::Operation) is a known one.
     Func,
     /// There is no set of that name.
     Fntf,
@@ -103,6 +104,9 @@ impl fmt::Display for Status {
         f.write_str(self.code())
     }
 }
+
+/// The error of a refused call, by [`Answer::done`](crate::Answer::done).
+impl std::error::Error for Status {}
 
 #[cfg(test)]
 mod tests {
