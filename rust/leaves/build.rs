@@ -14,7 +14,9 @@ fn main() {
     let library = repository.join("target/staticlib/libprobes.a");
     let source = Path::new(&package).join("driver.c");
     let driver = Path::new(&env::var("OUT_DIR").expect("cargo names a directory")).join("driver");
-    for file in [&library, &source, &repository.join("tools/cc-x86")] {
+    let compiler = repository.join("tools/cc-x86");
+    let header = repository.join("include/yarugota.h");
+    for file in [&library, &source, &compiler, &header] {
         println!("cargo:rerun-if-changed={}", file.display());
     }
     println!("cargo:rerun-if-changed=build.rs");
@@ -26,7 +28,7 @@ fn main() {
         println!("cargo:rustc-env=DRIVER=");
         return;
     }
-    let built = Command::new(repository.join("tools/cc-x86"))
+    let built = Command::new(&compiler)
         .args([&driver, &source, &library])
         .status()
         .expect("the compiler's script starts");

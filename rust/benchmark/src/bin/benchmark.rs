@@ -37,7 +37,7 @@ fn print(sizes: Sizes, rows: &[Row]) {
         let numbers = [ours.best, ours.median, other.best, other.median];
         let [a, b, c, d] = numbers.map(grouped);
         let calls = grouped(row.calls as f64);
-        let ratio = two_figures(ours.best / other.best);
+        let ratio = decimals(ours.best / other.best);
         println!(
             "| {} | {calls} | {a} | {b} | {c} | {d} | {ratio} |",
             row.name
@@ -46,7 +46,7 @@ fn print(sizes: Sizes, rows: &[Row]) {
 }
 
 /// A small ratio needs one more place.
-fn two_figures(ratio: f64) -> String {
+fn decimals(ratio: f64) -> String {
     let places = if ratio < 0.1 { 3 } else { 2 };
     format!("{ratio:.places$}")
 }
