@@ -16,10 +16,11 @@ fn main() {
     let compiler = repository.join("tools/cc-x86");
     let runner = repository.join("tools/run-x86");
     let (driver, stand_in) = (package.join("driver.c"), package.join("stand_in.c"));
+    let parts = package.join("stand_in");
     let include = repository.join("include");
     let header = include.join("yarugota.h");
-    for file in [&archive, &compiler, &driver, &stand_in, &header] {
-        println!("cargo:rerun-if-changed={}", file.display());
+    for path in [&archive, &compiler, &driver, &stand_in, &parts, &header] {
+        println!("cargo:rerun-if-changed={}", path.display());
     }
     println!("cargo:rerun-if-changed=build.rs");
 
