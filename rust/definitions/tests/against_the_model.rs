@@ -22,17 +22,6 @@ fn definitions() -> Program {
     read_definitions(&Rooms::ours()).unwrap_or_else(|fault| panic!("{fault}"))
 }
 
-fn without_set(op: &[u8; 5]) -> Call {
-    Call {
-        op: *op,
-        set: *b"    ",
-        reference: 7,
-        path: *b"        ",
-        key: Vec::new(),
-        area: Vec::new(),
-    }
-}
-
 /// Makes the call on both and panics where they differ. The data base is left
 /// as the call leaves it.
 fn compare(store: &Store, call: &Call, schema: &[u8], base: &mut [u8]) -> Status {
@@ -69,11 +58,11 @@ fn every_rule_of_the_schema() {
     let program = definitions();
     let store = Store::new(&program).unwrap();
     for row in rules::broken() {
-        let status = compare(&store, &without_set(b"FORMT"), &row.schema, &mut []);
+        let status = compare(&store, &Call::plain(b"FORMT"), &row.schema, &mut []);
         assert_eq!(status, Status::Schm, "{}", row.what);
     }
     for (what, draft) in rules::kept() {
-        let status = compare(&store, &without_set(b"FORMT"), &draft.encode(), &mut []);
+        let status = compare(&store, &Call::plain(b"FORMT"), &draft.encode(), &mut []);
         assert_eq!(status, Status::Size, "{what}");
     }
 }
@@ -91,7 +80,7 @@ fn random_calls_on_sound_and_damaged_data_bases() {
             continue;
         }
         let mut base = vec![0; schema.base_length()];
-        compare(&store, &without_set(b"FORMT"), &bytes, &mut base);
+        compare(&store, &Call::plain(b"FORMT"), &bytes, &mut base);
         let maker = CallMaker::new(&mut random, &schema);
         for _ in 0..CALLS_UP {
             trace.step += 1;
@@ -103,7 +92,7 @@ fn random_calls_on_sound_and_damaged_data_bases() {
             for _ in 0..random.between(1, 2) {
                 damage(&mut random, &schema, &mut base);
             }
-            compare(&store, &without_set(b"SINON"), &bytes, &mut base);
+            compare(&store, &Call::plain(b"SINON"), &bytes, &mut base);
             for _ in 0..CALLS_ON_DAMAGE {
                 trace.step += 1;
                 let call = match random.once_in(8) {

@@ -1,9 +1,7 @@
 //! Every single damage to a data base.
 
-use yarugota_model::{
-    seal, DataBase, Entry, Kind, Record, Schema, Set, BLOCK, MASTER_KEY, ROOT_NEXT, ROOT_PRIOR,
-    STATE,
-};
+use yarugota_model::{DataBase, Record, Schema, Set, BLOCK, STATE};
+use yarugota_support::damage::{keys, pointers, reseal};
 
 const CHECK: usize = 508;
 const BLANK: u8 = 0x20;
@@ -116,31 +114,4 @@ fn beyond(set: &Set, base: &[u8]) -> Vec<(Vec<u8>, usize)> {
         all.push((with_copy, behind));
     }
     all
-}
-
-fn pointers(entry: &Entry) -> Vec<usize> {
-    match entry.kind {
-        Kind::Master => {
-            let ends =
-                (0..entry.paths_to_it).flat_map(|at| [entry.first_at(at), entry.last_at(at)]);
-            [ROOT_NEXT, ROOT_PRIOR].into_iter().chain(ends).collect()
-        }
-        Kind::Variable => (0..entry.paths.len())
-            .flat_map(|slot| [entry.prior_at(slot), entry.next_at(slot)])
-            .collect(),
-    }
-}
-
-/// Where a record's keys are, and their lengths.
-fn keys(entry: &Entry) -> Vec<(usize, usize)> {
-    match entry.kind {
-        Kind::Master => vec![(MASTER_KEY, entry.key_length)],
-        Kind::Variable => (0..entry.paths.len())
-            .map(|slot| (entry.key_at(slot), entry.paths[slot].key_length))
-            .collect(),
-    }
-}
-
-fn reseal(base: &mut [u8], block: usize) {
-    seal(&mut base[block * BLOCK..(block + 1) * BLOCK], block as u32);
 }

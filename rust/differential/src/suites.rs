@@ -68,17 +68,6 @@ impl Suite {
     }
 }
 
-fn without_set(op: &[u8; 5]) -> Call {
-    Call {
-        op: *op,
-        set: *b"    ",
-        reference: 7,
-        path: *b"        ",
-        key: Vec::new(),
-        area: Vec::new(),
-    }
-}
-
 /// A schema's base length, or a block's for a schema that breaks a rule.
 fn base_length(schema: &[u8]) -> usize {
     Schema::decode(schema).map_or(BLOCK, |schema| schema.base_length())
@@ -92,7 +81,7 @@ fn every_rule(beside: &mut Beside, _seed: u64) {
         beside.schema(&row.schema);
         beside.set_base(&base);
         for op in [b"FORMT", b"SINON", b"RDNXT", b"NONE "] {
-            beside.call(&without_set(op));
+            beside.call(&Call::plain(op));
         }
     }
 }
@@ -106,14 +95,14 @@ fn every_size(beside: &mut Beside, _seed: u64) {
         beside.schema(&schema);
         for length in [0, length - BLOCK, length - 1, length + 1, length + BLOCK] {
             beside.set_base(&vec![0; length]);
-            beside.call(&without_set(b"FORMT"));
-            beside.call(&without_set(b"NONE "));
+            beside.call(&Call::plain(b"FORMT"));
+            beside.call(&Call::plain(b"NONE "));
         }
         beside.set_base(&vec![0xEE; length]);
-        beside.call(&without_set(b"FORMT"));
+        beside.call(&Call::plain(b"FORMT"));
         // SINON of the largest sets takes long.
         if length <= 64 * BLOCK {
-            beside.call(&without_set(b"SINON"));
+            beside.call(&Call::plain(b"SINON"));
         }
     }
 }
@@ -176,7 +165,7 @@ fn largest(beside: &mut Beside, _seed: u64) {
     let schema = draft.encode();
     beside.schema(&schema);
     beside.set_base(&vec![0xEE; base_length(&schema)]);
-    beside.call(&without_set(b"FORMT"));
+    beside.call(&Call::plain(b"FORMT"));
     let mut make = |op: &[u8; 5], set: &[u8; 4], reference, key: u32, data: &[u8]| {
         let key = key.to_be_bytes().to_vec();
         beside.call(&Call {
@@ -239,7 +228,7 @@ fn schema_bytes(beside: &mut Beside, seed: u64) {
             yarugota_model::seal(&mut schema, 0);
         }
         beside.schema(&schema);
-        beside.call(&without_set(b"FORMT"));
+        beside.call(&Call::plain(b"FORMT"));
         beside.base_again();
     }
 }
@@ -264,7 +253,7 @@ fn several_faults(beside: &mut Beside, seed: u64) {
 fn formatted(beside: &mut Beside, bytes: &[u8], schema: &Schema) {
     beside.schema(bytes);
     beside.set_base(&vec![0; schema.base_length()]);
-    beside.call(&without_set(b"FORMT"));
+    beside.call(&Call::plain(b"FORMT"));
 }
 
 /// A store is filled and then damaged in one to three places, again and again.
@@ -292,7 +281,7 @@ fn random_damage(beside: &mut Beside, seed: u64) {
             damage(&mut random, &schema, &mut damaged);
         }
         beside.set_base(&damaged);
-        beside.call(&without_set(b"SINON"));
+        beside.call(&Call::plain(b"SINON"));
         for _ in 0..FOLLOWING {
             let call = match random.once_in(8) {
                 true => maker.faulty(&mut random, beside.base()),

@@ -99,7 +99,7 @@ pub fn calls_on(schema: &Schema, base: &[u8]) -> Vec<Call> {
         schema,
         bytes: base,
     };
-    let mut calls = vec![call(b"SINON", b"    ", 0, None, b"", b"")];
+    let mut calls = vec![Call::plain(b"SINON")];
     for set in base.sets() {
         for record in 0..=set.entry.records {
             let area = vec![0xA5; set.entry.area_length()];

@@ -1,8 +1,8 @@
 //! What is done to a copy of the data base, or to a schema, before a call.
 
-use yarugota_model::{seal, DataBase, Kind as SetKind, Schema, BLOCK, MASTER_KEY};
+use yarugota_model::{seal, DataBase, Kind as SetKind, Schema, BLOCK};
 use yarugota_support::damage::{
-    change_byte, change_pointer, change_state, copy_record, flip_byte, pointers, reseal,
+    change_byte, change_pointer, change_state, copy_record, flip_byte, keys, pointers, reseal,
     rubbish_block, some_record,
 };
 use yarugota_support::Random;
@@ -145,13 +145,11 @@ fn change_live_pointer(random: &mut Random, schema: &Schema, base: &mut [u8]) {
 fn change_key(random: &mut Random, schema: &Schema, base: &mut [u8]) {
     let (number, record) = some_record(random, schema);
     let entry = &schema.entries[number];
-    let (at, length) = match entry.kind {
-        SetKind::Master => (MASTER_KEY, entry.key_length),
-        SetKind::Variable => {
-            let slot = random.below(entry.paths.len());
-            (entry.key_at(slot), entry.paths[slot].key_length)
-        }
+    let slot = match entry.kind {
+        SetKind::Master => 0,
+        SetKind::Variable => random.below(entry.paths.len()),
     };
+    let (at, length) = keys(entry)[slot];
     let key = record + at..record + at + length;
     match random.below(3) {
         0 => base[key].fill(b' '),

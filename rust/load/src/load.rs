@@ -93,7 +93,7 @@ impl Load {
             base: random.bytes(schema.base_length()),
         };
         self.beside.schema(&bytes);
-        self.live(&mut life, &without_set(Operation::Formt));
+        self.live(&mut life, &Call::plain(Operation::Formt.name()));
         for step in 1..=steps {
             trace.step = step as usize;
             if self.beside.differs() {
@@ -106,7 +106,7 @@ impl Load {
             self.faults(&mut random, &life, &maker, &call);
             self.live(&mut life, &call);
         }
-        self.live(&mut life, &without_set(Operation::Sinon));
+        self.live(&mut life, &Call::plain(Operation::Sinon.name()));
     }
 
     /// A call on the round's own data base, which is sound and stays so.
@@ -145,7 +145,7 @@ impl Load {
         let (copy, kinds) = damaged(random, life.schema, &life.base, checks_true);
         self.tally.damage(&kinds, checks_true);
         self.beside.set_base(&copy);
-        match self.call(&without_set(Operation::Sinon)).status {
+        match self.call(&Call::plain(Operation::Sinon.name())).status {
             Status::Damg => self.tally.refused += 1,
             _ => self.tally.accepted += 1,
         }
@@ -155,7 +155,7 @@ impl Load {
                 let call = maker.likely(random, self.beside.base());
                 self.call(&call);
             }
-            self.call(&without_set(Operation::Sinon));
+            self.call(&Call::plain(Operation::Sinon.name()));
         }
         if random.once_in(8) {
             let fitting = calls_on(life.schema, &life.base);
@@ -237,16 +237,5 @@ fn draft(random: &mut Random) -> Draft {
     match larger.blocks() <= MOST_BLOCKS {
         true => larger,
         false => small,
-    }
-}
-
-fn without_set(operation: Operation) -> Call {
-    Call {
-        op: *operation.name(),
-        set: *b"    ",
-        reference: 7,
-        path: *b"        ",
-        key: Vec::new(),
-        area: Vec::new(),
     }
 }

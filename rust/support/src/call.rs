@@ -13,6 +13,20 @@ pub struct Call {
     pub area: Vec<u8>,
 }
 
+impl Call {
+    /// A call that names an operation and nothing else.
+    pub fn plain(op: &[u8; 5]) -> Call {
+        Call {
+            op: *op,
+            set: *b"    ",
+            reference: 7,
+            path: *b"        ",
+            key: Vec::new(),
+            area: Vec::new(),
+        }
+    }
+}
+
 /// The model as a store: it changes the call's area and the data base, and
 /// gives status and reference.
 pub fn model(call: &mut Call, schema: &[u8], base: &mut [u8]) -> (Status, u32) {

@@ -1,6 +1,6 @@
 //! Damage done to a data base from outside.
 
-use yarugota_model::{seal, Entry, Kind, Schema, BLOCK, ROOT_NEXT, ROOT_PRIOR, STATE};
+use yarugota_model::{seal, Entry, Kind, Schema, BLOCK, MASTER_KEY, ROOT_NEXT, ROOT_PRIOR, STATE};
 
 use crate::Random;
 
@@ -99,6 +99,16 @@ pub fn pointers(entry: &Entry) -> Vec<usize> {
         }
         Kind::Variable => (0..entry.paths.len())
             .flat_map(|slot| [entry.prior_at(slot), entry.next_at(slot)])
+            .collect(),
+    }
+}
+
+/// Where the keys of a set's records are, and their lengths.
+pub fn keys(entry: &Entry) -> Vec<(usize, usize)> {
+    match entry.kind {
+        Kind::Master => vec![(MASTER_KEY, entry.key_length)],
+        Kind::Variable => (0..entry.paths.len())
+            .map(|slot| (entry.key_at(slot), entry.paths[slot].key_length))
             .collect(),
     }
 }

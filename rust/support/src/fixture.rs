@@ -1,7 +1,8 @@
 //! A schema and a data base to make calls on.
 
-use yarugota_model::{format, seal, DataBase, Schema, Status, BLOCK};
+use yarugota_model::{format, DataBase, Schema, Status, BLOCK};
 
+use crate::damage::reseal;
 use crate::{make, model, Answered, Call};
 
 /// A store with its schema, its data base, and calls written short. The calls
@@ -63,7 +64,7 @@ impl Fixture {
     }
 
     pub fn sinon(&mut self) -> Status {
-        self.on_set("SINON", "    ", 0, b"", b"").status
+        self.make(&Call::plain(b"SINON")).status
     }
 
     pub fn view(&self) -> DataBase<'_> {
@@ -91,8 +92,7 @@ impl Fixture {
     }
 
     pub fn reseal(&mut self, block: usize) {
-        let bytes = &mut self.base[block * BLOCK..(block + 1) * BLOCK];
-        seal(bytes, block as u32);
+        reseal(&mut self.base, block);
     }
 
     /// Makes the check of the block that holds this record false.

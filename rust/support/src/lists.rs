@@ -246,6 +246,20 @@ impl Lists<'_> {
             _ => Some(call.reference),
         }
     }
+
+    /// The area that a call leaves when it is done and returns this reference.
+    /// `None` where it is the next master's, which the lists do not know.
+    pub fn area<'a>(&'a self, call: &'a Call, returned: u32) -> Option<&'a [u8]> {
+        let Some(named) = self.named(call) else {
+            return Some(&call.area);
+        };
+        match named.operation {
+            operation if !operation.is_read() || returned == END => Some(&call.area),
+            Operation::Readm => Some(&self.masters[named.number][&call.key]),
+            Operation::Rdnxt if named.entry.kind == Kind::Master => None,
+            _ => Some(&self.records[named.number][&returned]),
+        }
+    }
 }
 
 /// The number after this one, or the first if this one is not among them, as
@@ -275,20 +289,14 @@ fn blank(key: &[u8]) -> bool {
 /// the first difference.
 impl Lists<'_> {
     pub fn compare(&self, mut store: impl FnMut(&Call) -> Answered) {
-        let sinon = Call {
-            op: *Operation::Sinon.name(),
-            set: *b"    ",
-            reference: 0,
-            path: *b"        ",
-            key: Vec::new(),
-            area: Vec::new(),
-        };
-        assert_eq!(store(&sinon).status, Status::Done, "the store is sound");
+        let sinon = store(&Call::plain(Operation::Sinon.name()));
+        assert_eq!(sinon.status, Status::Done, "the store is sound");
         for (number, entry) in self.schema.entries.iter().enumerate() {
             match entry.kind {
                 Kind::Master => self.compare_masters(number, &mut store),
                 Kind::Variable => {
                     self.compare_sweep(number, &mut store);
+                    self.compare_numbers(number, &mut store);
                     self.compare_chains(number, &mut store);
                 }
             }
@@ -315,6 +323,20 @@ impl Lists<'_> {
         let swept = sweep(entry, store);
         let records = self.records[number].clone();
         assert_eq!(swept, Vec::from_iter(records), "records of the sweep");
+    }
+
+    /// READD gives every record, by each of its paths.
+    fn compare_numbers(&self, number: usize, store: &mut impl FnMut(&Call) -> Answered) {
+        let entry = &self.schema.entries[number];
+        for (&record, area) in &self.records[number] {
+            let (keys, _) = entry.split_area(area);
+            for (path, key) in entry.paths.iter().zip(keys) {
+                let name = self.schema.path_name(path);
+                let read = store(&read(entry, Operation::Readd, record, Some(name), key));
+                assert_eq!(read.status, Status::Done, "READD of a listed record");
+                assert_eq!((read.reference, &read.area), (record, area), "READD");
+            }
+        }
     }
 
     /// Every chain forward and backward, the empty ones too.

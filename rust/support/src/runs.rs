@@ -2,11 +2,11 @@
 //!
 //! Each run has a schema of its own. What the calls answer is compared with
 //! what the lists say, and every few calls the whole store is read through,
-//! forward, backward and in sweeps. A run panics at the first difference.
+//! forward, backward, by number and in sweeps. A run panics at the first
+//! difference.
 
 use std::collections::BTreeMap;
 
-use yarugota_model::reference::END;
 use yarugota_model::{find, DataBase, Operation, Schema, Search, Status};
 
 use crate::calls::CallMaker;
@@ -101,15 +101,10 @@ where
             base,
             lists: Lists::new(schema),
         };
-        let formatted = run.make(&Call {
-            op: *Operation::Formt.name(),
-            set: *b"    ",
-            reference: 7,
-            path: *b"        ",
-            key: Vec::new(),
-            area: Vec::new(),
-        });
-        assert_eq!((formatted.status, formatted.reference), (Status::Done, 7));
+        let call = Call::plain(Operation::Formt.name());
+        let formatted = run.make(&call);
+        assert_eq!(formatted.status, Status::Done, "FORMT");
+        assert_eq!(formatted.reference, call.reference, "FORMT");
         run
     }
 
@@ -135,15 +130,15 @@ where
             self.look_ahead(call, operation, seen);
         }
         let answered = self.make(call);
-        assert_eq!(answered.status, status, "{call:?}");
+        assert_eq!(answered.status, status, "status of {call:?}");
         if status != Status::Done {
             return;
         }
         if let Some(reference) = self.lists.reference(call) {
-            assert_eq!(answered.reference, reference, "{call:?}");
+            assert_eq!(answered.reference, reference, "reference of {call:?}");
         }
-        if !operation.is_read() || answered.reference == END {
-            assert_eq!(answered.area, call.area, "area of {call:?}");
+        if let Some(area) = self.lists.area(call, answered.reference) {
+            assert_eq!(answered.area, area, "area of {call:?}");
         }
         self.lists.note(call, answered.reference);
     }
