@@ -208,15 +208,11 @@ impl Compiler<'_> {
         syntax: &Syntax,
         variables: &mut Vec<String>,
     ) -> Result<Pattern, String> {
-        let (name, arguments) = match syntax {
-            Syntax::Number(number) => return Ok(Pattern::Number(*number)),
-            Syntax::Name(name) => (name, &[][..]),
-            Syntax::Apply(head, arguments) => match &**head {
-                Syntax::Name(name) => (name, &arguments[..]),
-                _ => return Err(format!("no pattern: {syntax:?}")),
-            },
-            _ => return Err(format!("no pattern: {syntax:?}")),
-        };
+        if let Syntax::Number(number) = syntax {
+            return Ok(Pattern::Number(*number));
+        }
+        let no_pattern = || format!("no pattern: {syntax:?}");
+        let (name, arguments) = applied_name(syntax).ok_or_else(no_pattern)?;
         match (self.meaning(module, name)?, arguments) {
             (Some(Meaning::Native(Native::Zero)), []) => Ok(Pattern::Number(0)),
             (Some(Meaning::Native(Native::True)), []) => Ok(Pattern::Truth(true)),
@@ -233,17 +229,16 @@ impl Compiler<'_> {
             }
             (Some(Meaning::Constructor(constructor)), arguments) => {
                 let constructor = self.constructor(constructor);
-                let mut patterns = Vec::new();
-                for argument in arguments {
-                    patterns.push(self.pattern(module, argument, variables)?);
-                }
-                Ok(Pattern::Constructor(constructor, patterns))
+                let inside = arguments.iter();
+                let inside = inside.map(|argument| self.pattern(module, argument, variables));
+                let inside: Result<_, String> = inside.collect();
+                Ok(Pattern::Constructor(constructor, inside?))
             }
             (_, []) => {
                 variables.push(name.clone());
                 Ok(Pattern::Variable)
             }
-            _ => Err(format!("no pattern: {syntax:?}")),
+            _ => Err(no_pattern()),
         }
     }
 
@@ -316,6 +311,18 @@ fn declared(module: &Module, source: &Source, name: &str) -> Option<Meaning> {
         Some(Meaning::Constructor(constructor))
     } else {
         None
+    }
+}
+
+/// A name and what it is applied to, if that is what is written.
+fn applied_name(syntax: &Syntax) -> Option<(&String, &[Syntax])> {
+    match syntax {
+        Syntax::Name(name) => Some((name, &[])),
+        Syntax::Apply(head, arguments) => match &**head {
+            Syntax::Name(name) => Some((name, arguments)),
+            _ => None,
+        },
+        _ => None,
     }
 }
 

@@ -78,53 +78,68 @@ fn tokens(text: &str) -> Result<Vec<Token>, String> {
     let characters: Vec<char> = text.chars().collect();
     let mut tokens = Vec::new();
     let mut at = 0;
-    while let Some(&character) = characters.get(at) {
-        let next = characters.get(at + 1).copied();
-        match character {
-            ' ' => at += 1,
-            '-' if next == Some('-') => break,
-            '.' => {
-                let name = word(&characters[at + 1..]);
-                let tight = at > 0 && !ends_word(characters[at - 1]);
-                at += 1 + name.chars().count();
-                tokens.push(match (name.is_empty(), tight) {
-                    (true, _) => Token::Dot,
-                    (false, true) => Token::TightField(name),
-                    (false, false) => Token::Field(name),
-                });
-            }
-            '"' => {
-                let inside: String = characters[at + 1..]
-                    .iter()
-                    .take_while(|c| **c != '"')
-                    .collect();
-                if inside.contains('\\') {
-                    return Err("escapes in a text are not read".to_string());
-                }
-                at += inside.chars().count() + 2;
-                if at > characters.len() {
-                    return Err("a text without its end".to_string());
-                }
-                tokens.push(Token::Text(inside));
-            }
-            _ => match punctuation(character) {
-                Some(token) => {
-                    tokens.push(token);
-                    at += 1;
-                }
-                None => {
-                    let name = word(&characters[at..]);
-                    at += name.chars().count();
-                    tokens.push(if character.is_ascii_digit() {
-                        Token::Number(number(&name)?)
-                    } else {
-                        Token::Name(name)
-                    });
-                }
-            },
+    while at < characters.len() && !characters[at..].starts_with(&['-', '-']) {
+        if characters[at] == ' ' {
+            at += 1;
+            continue;
         }
+        let (token, length) = token(&characters, at)?;
+        tokens.push(token);
+        at += length;
     }
     Ok(tokens)
+}
+
+/// The token that begins at this place, and how many characters it has.
+fn token(characters: &[char], at: usize) -> Result<(Token, usize), String> {
+    let after = &characters[at + 1..];
+    match characters[at] {
+        '.' => {
+            let tight = at > 0 && !ends_word(characters[at - 1]);
+            Ok(dot(after, tight))
+        }
+        '"' => quoted(after),
+        first => match punctuation(first) {
+            Some(token) => Ok((token, 1)),
+            None => name_or_number(&characters[at..]),
+        },
+    }
+}
+
+/// What a dot begins, `tight` where a name stands right before it.
+fn dot(after: &[char], tight: bool) -> (Token, usize) {
+    let name = word(after);
+    let length = 1 + name.chars().count();
+    let token = match (name.is_empty(), tight) {
+        (true, _) => Token::Dot,
+        (false, true) => Token::TightField(name),
+        (false, false) => Token::Field(name),
+    };
+    (token, length)
+}
+
+/// A text, behind its first quotation mark.
+fn quoted(after: &[char]) -> Result<(Token, usize), String> {
+    let inside: String = after.iter().take_while(|c| **c != '"').collect();
+    if inside.contains('\\') {
+        return Err("escapes in a text are not read".to_string());
+    }
+    let length = inside.chars().count();
+    if length == after.len() {
+        return Err("a text without its end".to_string());
+    }
+    Ok((Token::Text(inside), length + 2))
+}
+
+fn name_or_number(characters: &[char]) -> Result<(Token, usize), String> {
+    let name = word(characters);
+    let length = name.chars().count();
+    let token = if name.starts_with(|c: char| c.is_ascii_digit()) {
+        Token::Number(number(&name)?)
+    } else {
+        Token::Name(name)
+    };
+    Ok((token, length))
 }
 
 fn punctuation(character: char) -> Option<Token> {

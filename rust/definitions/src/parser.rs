@@ -136,43 +136,37 @@ impl Parser<'_> {
         if self.operator().is_some() {
             return Ok(None);
         }
-        let atom = match self.peek() {
-            Some(Token::Name(name)) if name == "record" => {
-                self.at += 1;
-                self.record()?
+        let before = self.at;
+        let atom = match self.next() {
+            Some(Token::Name(name)) if name == "record" => self.record()?,
+            Some(Token::Name(name)) => self.projected(name),
+            Some(Token::Number(number)) => Syntax::Number(number),
+            Some(Token::Text(text)) => Syntax::Text(text),
+            Some(Token::Open) => self.closed()?,
+            Some(Token::Lambda) => self.lambda()?,
+            _ => {
+                self.at = before;
+                return Ok(None);
             }
-            Some(Token::Name(name)) => {
-                let mut atom = Syntax::Name(name.clone());
-                self.at += 1;
-                while let Some(Token::TightField(field)) = self.peek() {
-                    atom = Syntax::Project(Box::new(atom), field.clone());
-                    self.at += 1;
-                }
-                atom
-            }
-            Some(Token::Number(number)) => {
-                let number = *number;
-                self.at += 1;
-                Syntax::Number(number)
-            }
-            Some(Token::Text(text)) => {
-                let text = text.clone();
-                self.at += 1;
-                Syntax::Text(text)
-            }
-            Some(Token::Open) => {
-                self.at += 1;
-                let inside = self.expression(0)?;
-                self.expect(Token::Close)?;
-                inside
-            }
-            Some(Token::Lambda) => {
-                self.at += 1;
-                self.lambda()?
-            }
-            _ => return Ok(None),
         };
         Ok(Some(atom))
+    }
+
+    /// A name with the fields that stand right behind it.
+    fn projected(&mut self, name: String) -> Syntax {
+        let mut syntax = Syntax::Name(name);
+        while let Some(Token::TightField(field)) = self.peek() {
+            syntax = Syntax::Project(Box::new(syntax), field.clone());
+            self.at += 1;
+        }
+        syntax
+    }
+
+    /// What stands in parentheses, behind the opening one.
+    fn closed(&mut self) -> Result<Syntax, String> {
+        let inside = self.expression(0)?;
+        self.expect(Token::Close)?;
+        Ok(inside)
     }
 
     /// `λ x y. body`, the body as far to the right as it can be.

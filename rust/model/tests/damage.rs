@@ -398,7 +398,7 @@ fn a_prior_of_the_home_when_no_synonym_moves() {
 
 /// Where stores meet, the later one in document 01's order stays.
 #[test]
-fn stores_that_meet() {
+fn stores_of_masters_that_meet() {
     // The stranger's prior is the home itself: the new record there gets the
     // free record as its next.
     let mut fixture = without_points();
@@ -420,7 +420,10 @@ fn stores_that_meet() {
     done(fixture.make(&master_call(b"DEL-M", b"B001")).status);
     assert_eq!(pointer(&fixture, "BOTL", 2, ROOT_PRIOR), 2);
     assert_eq!(pointer(&fixture, "BOTL", 2, ROOT_NEXT), 2);
+}
 
+#[test]
+fn stores_of_points_that_meet() {
     // A record that is its own neighbour is unlinked from itself and wiped.
     let mut fixture = stocked();
     fixture.poke_pointer("PNTS", 2, at::PT_PRIOR, 2);
@@ -519,12 +522,13 @@ fn a_new_record_is_written_whole() {
     done(fixture.sinon());
 }
 
+fn read(fixture: &mut Fixture, key: &[u8; 4]) -> (Status, u32) {
+    let answered = fixture.make(&master_call(b"READM", key));
+    (answered.status, answered.reference)
+}
+
 #[test]
-fn finding_a_key_on_a_damaged_chain() {
-    let read = |fixture: &mut Fixture, key: &[u8; 4]| {
-        let answered = fixture.make(&master_call(b"READM", key));
-        (answered.status, answered.reference)
-    };
+fn finding_a_key_on_a_chain_that_goes_on() {
     // The chain of home 2 goes round: 2, 1, 2, ...
     let mut fixture = stocked();
     fixture.poke_pointer("BOTL", 1, ROOT_NEXT, 2);
@@ -541,6 +545,10 @@ fn finding_a_key_on_a_damaged_chain() {
     assert_eq!(read(&mut fixture, ABSENT_BOTTLE).0, Status::Mrnf);
     fixture.poke_pointer("BOTL", 3, ROOT_NEXT, 3);
     assert_eq!(read(&mut fixture, ABSENT_BOTTLE).0, Status::Damg);
+}
+
+#[test]
+fn finding_a_key_among_damaged_records() {
     // A free record on the way.
     let mut fixture = stocked();
     fixture.poke_pointer("BOTL", 2, ROOT_NEXT, 3);

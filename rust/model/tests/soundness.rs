@@ -96,7 +96,7 @@ fn distinct_master_keys() {
 }
 
 #[test]
-fn homes() {
+fn pointers_of_a_home_chain() {
     // Prior of the home, next of the last, prior of the synonym.
     not_sound_with_pointer("BOTL", 2, ROOT_PRIOR, 1);
     not_sound_with_pointer("BOTL", 1, ROOT_NEXT, 2);
@@ -106,6 +106,10 @@ fn homes() {
     not_sound_with_pointer("BOTL", 1, ROOT_NEXT, 99);
     not_sound_with_pointer("BOTL", 1, ROOT_PRIOR, 0);
     not_sound_with_pointer("BOTL", 1, ROOT_PRIOR, 4);
+}
+
+#[test]
+fn every_master_is_on_the_chain_of_its_home() {
     // The synonym is on no chain.
     not_sound_with_pointer("BOTL", 2, ROOT_NEXT, 0);
     not_sound(|fixture| {
