@@ -1,7 +1,7 @@
 //! A case in which the store and the model differ, told so that it can be run
 //! again.
 
-use std::fmt::{self, Write as _};
+use std::fmt::Write as _;
 use std::fs;
 use std::path::PathBuf;
 
@@ -26,24 +26,23 @@ pub struct Difference {
     pub answer: Result<Answer, Failure>,
 }
 
-impl fmt::Display for Difference {
-    fn fmt(&self, f: &mut fmt::Formatter) -> fmt::Result {
-        let Origin { suite, seed, step } = self.origin;
-        writeln!(
-            f,
-            "the store and the model differ: suite {suite}, seed {seed}, step {step}"
-        )?;
-        writeln!(f, "{}", self.both())?;
-        writeln!(f, "again, from rust/:")?;
-        writeln!(
-            f,
-            "  cargo run --release -p yarugota-differential -- --suite {suite} --seed {seed}"
-        )?;
-        write!(f, "{}", self.kept())
-    }
-}
-
 impl Difference {
+    /// Tells the case, with the commands that make it again, and writes it
+    /// down for the second of them.
+    pub fn report(&self) -> String {
+        let Origin { suite, seed, step } = self.origin;
+        [
+            format!("the store and the model differ: suite {suite}, seed {seed}, step {step}"),
+            self.both(),
+            "again, from rust/:".to_string(),
+            format!(
+                "  cargo run --release -p yarugota-differential -- --suite {suite} --seed {seed}"
+            ),
+            self.write_down(),
+        ]
+        .join("\n")
+    }
+
     /// The call, and what each side made of it.
     pub fn both(&self) -> String {
         let store = match &self.answer {
@@ -58,8 +57,8 @@ impl Difference {
     }
 
     /// Writes this call alone into a file and tells how to make it again.
-    pub fn kept(&self) -> String {
-        match self.write_down() {
+    pub fn write_down(&self) -> String {
+        match self.write() {
             Ok(file) => format!(
                 "this call alone, from rust/:\n  cargo run --release -p yarugota-differential -- --case {}",
                 file.display()
@@ -90,7 +89,7 @@ impl Difference {
     }
 
     /// Writes it into a file of its own and gives that file's name.
-    fn write_down(&self) -> std::io::Result<PathBuf> {
+    fn write(&self) -> std::io::Result<PathBuf> {
         let Origin { suite, seed, step } = self.origin;
         let folder = PathBuf::from(env!("CARGO_MANIFEST_DIR")).join("../target/differential");
         fs::create_dir_all(&folder)?;

@@ -9,6 +9,7 @@ mod beside;
 mod case;
 mod damages;
 mod direct;
+mod largest;
 mod parameters;
 pub mod suites;
 mod targets;

@@ -3,16 +3,15 @@
 use std::ops::Range;
 
 use yarugota_driver::{Answer, Store};
-use yarugota_model::{Schema, Status, BLOCK};
+use yarugota_model::{seal, Schema, Status, BLOCK};
 use yarugota_support::calls::CallMaker;
 use yarugota_support::damage::{damage, rubbish};
 use yarugota_support::runs::run_reading_every;
-use yarugota_support::schemas::{Draft, Master, Path, Variable};
 use yarugota_support::{rules, schemas, Call, Random};
 
 use crate::beside::modelled;
 use crate::targets::{calls_on, stores};
-use crate::{damages, parameters, Beside, Difference, Summary};
+use crate::{damages, largest, parameters, Beside, Difference, Summary};
 
 /// A way to make calls.
 #[derive(Clone, Copy)]
@@ -29,7 +28,7 @@ pub const ALL: [Suite; 9] = [
     suite("sizes", 1, every_size),
     suite("parameters", 1, |beside, _| parameters::every(beside)),
     suite("damages", 1, every_damage),
-    suite("largest", 1, largest),
+    suite("largest", 1, |beside, _| largest::every(beside)),
     suite("schemas", 40, schema_bytes),
     suite("faults", 60, several_faults),
     suite("damage", 60, random_damage),
@@ -142,64 +141,6 @@ fn every_damage(beside: &mut Beside, _seed: u64) {
     }
 }
 
-/// T 4,096 and R 65,535, with a few records at the far ends of their sets.
-fn largest(beside: &mut Beside, _seed: u64) {
-    const BOTTLES: u32 = 65_535;
-    let draft = Draft {
-        masters: vec![Master {
-            name: *b"BOTL",
-            key_length: 4,
-            data_length: 0,
-            records: BOTTLES,
-        }],
-        variables: vec![Variable {
-            name: *b"PNTS",
-            data_length: 4,
-            records: (4096 - 3121) * 25,
-            paths: vec![Path {
-                letters: *b"PT",
-                master: 0,
-            }],
-        }],
-    };
-    let schema = draft.encode();
-    beside.schema(&schema);
-    beside.set_base(&vec![0xEE; base_length(&schema)]);
-    beside.call(&Call::plain(b"FORMT"));
-    let mut make = |op: &[u8; 5], set: &[u8; 4], reference, key: u32, data: &[u8]| {
-        let key = key.to_be_bytes().to_vec();
-        beside.call(&Call {
-            op: *op,
-            set: *set,
-            reference,
-            path: *b"BOTLLKPT",
-            area: [&key, data].concat(),
-            key,
-        });
-    };
-    for key in [
-        0,
-        BOTTLES - 1,
-        2 * BOTTLES - 1,
-        BOTTLES,
-        u32::MAX,
-        u32::MAX - 1,
-    ] {
-        make(b"ADD-M", b"BOTL", 0, key, b"");
-        make(b"READM", b"BOTL", 0, key, b"");
-        for _ in 0..3 {
-            make(b"ADDVC", b"PNTS", 0, key, b"data");
-        }
-        make(b"READR", b"PNTS", 0x4C4B_5054, key, b"....");
-    }
-    for reference in [0, 5, BOTTLES - 1, BOTTLES, BOTTLES + 1] {
-        make(b"RDNXT", b"BOTL", reference, 0, b"");
-        make(b"RDNXT", b"PNTS", reference, 0, b"....");
-    }
-    make(b"DELVD", b"PNTS", 2, 0, b"");
-    make(b"DEL-M", b"BOTL", 0, BOTTLES - 1, b"");
-}
-
 /// Schemas with a byte or two changed, the check mostly set right again.
 fn schema_bytes(beside: &mut Beside, seed: u64) {
     const TRIES: usize = 120;
@@ -225,7 +166,7 @@ fn schema_bytes(beside: &mut Beside, seed: u64) {
             };
         }
         if !random.once_in(16) {
-            yarugota_model::seal(&mut schema, 0);
+            seal(&mut schema, 0);
         }
         beside.schema(&schema);
         beside.call(&Call::plain(b"FORMT"));

@@ -141,49 +141,71 @@ fn keys_of(set: &Set) -> Vec<Vec<u8>> {
 }
 
 fn on_variables(base: &DataBase, set: &Set) -> Vec<Call> {
-    let entry = set.entry;
     let mut calls = Vec::new();
-    for (slot, path) in entry.paths.iter().enumerate() {
-        let name = base.schema.path_name(path);
-        let mut add = |op, reference, keys: &[&[u8]]| {
-            let area = area(keys, entry.data_length, 0x5A);
-            calls.push(call(
-                op,
-                &entry.name,
-                reference,
-                Some(name),
-                keys[slot],
-                &area,
-            ));
-        };
-        for (record, stored) in set.live_records() {
-            let keys = stored.keys();
-            for op in [
-                b"READV", b"READR", b"READD", b"WRITV", b"DELVD", b"ADDVA", b"ADDVB", b"ADDVC",
-            ] {
-                add(op, record, &keys);
-            }
-        }
-        // From the ends of every chain, empty ones too.
-        for key in keys_of(&base.set(path.master)) {
-            let others: Vec<Vec<u8>> = entry
-                .paths
-                .iter()
-                .map(|other| keys_of(&base.set(other.master)).into_iter().next())
-                .map(|first| first.unwrap_or(vec![0; 4]))
-                .collect();
-            let mut keys: Vec<&[u8]> = others.iter().map(Vec::as_slice).collect();
-            keys[slot] = &key;
-            let lengths = entry.paths.iter().map(|path| path.key_length);
-            if !keys.iter().map(|key| key.len()).eq(lengths) {
-                continue;
-            }
-            for op in [b"READV", b"READR", b"ADDVC"] {
-                add(op, lk(path.letters), &keys);
-            }
+    for slot in 0..set.entry.paths.len() {
+        calls.extend(from_records(base, set, slot));
+        calls.extend(from_ends(base, set, slot));
+    }
+    calls
+}
+
+/// On every record there is, by one of its paths.
+fn from_records(base: &DataBase, set: &Set, slot: usize) -> Vec<Call> {
+    let mut calls = Vec::new();
+    for (record, stored) in set.live_records() {
+        let keys = stored.keys();
+        for op in [
+            b"READV", b"READR", b"READD", b"WRITV", b"DELVD", b"ADDVA", b"ADDVB", b"ADDVC",
+        ] {
+            calls.push(on_path(base, set, slot, op, record, &keys));
         }
     }
     calls
+}
+
+/// From the ends of every chain of a path, empty ones too.
+fn from_ends(base: &DataBase, set: &Set, slot: usize) -> Vec<Call> {
+    let paths = &set.entry.paths;
+    let firsts: Vec<Vec<u8>> = paths
+        .iter()
+        .map(|path| keys_of(&base.set(path.master)).into_iter().next())
+        .map(|first| first.unwrap_or(vec![0; 4]))
+        .collect();
+    let mut calls = Vec::new();
+    for key in keys_of(&base.set(paths[slot].master)) {
+        let mut keys: Vec<&[u8]> = firsts.iter().map(Vec::as_slice).collect();
+        keys[slot] = &key;
+        let lengths = paths.iter().map(|path| path.key_length);
+        if !keys.iter().map(|key| key.len()).eq(lengths) {
+            continue;
+        }
+        for op in [b"READV", b"READR", b"ADDVC"] {
+            let end = lk(paths[slot].letters);
+            calls.push(on_path(base, set, slot, op, end, &keys));
+        }
+    }
+    calls
+}
+
+/// A call that names a path, with these keys in its area.
+fn on_path(
+    base: &DataBase,
+    set: &Set,
+    slot: usize,
+    op: &[u8; 5],
+    reference: u32,
+    keys: &[&[u8]],
+) -> Call {
+    let name = base.schema.path_name(&set.entry.paths[slot]);
+    let area = area(keys, set.entry.data_length, 0x5A);
+    call(
+        op,
+        &set.entry.name,
+        reference,
+        Some(name),
+        keys[slot],
+        &area,
+    )
 }
 
 fn call(

@@ -10,7 +10,7 @@ use yarugota_model::{Operation, Status};
 fn run(name: &str) -> Summary {
     let suite = Suite::named(name).expect("a suite of that name");
     let run = suite.on(Store::chosen(), 0..suite.seeds);
-    let summary = run.unwrap_or_else(|difference| panic!("{difference}"));
+    let summary = run.unwrap_or_else(|difference| panic!("{}", difference.report()));
     println!("{name}: {} calls", summary.calls);
     summary
 }

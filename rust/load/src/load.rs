@@ -216,7 +216,7 @@ fn tell(difference: &Difference, late: bool, steps: u64, deadline: Duration) -> 
     format!(
         "{what}: seed {seed}, call {step} of the round\n{}\nagain:\n  rust/load/run --seed {seed} --steps {steps} --calls 1\n{}",
         difference.both(),
-        difference.kept()
+        difference.write_down()
     )
 }
 

@@ -1,7 +1,7 @@
 //! A longer run of the proved store beside the model.
 //!
 //! ```text
-//! differential [--seed S] [--calls N]    seeds S, S + 1, .. of every suite with seeds, until N calls are made
+//! differential [--seed S] [--calls N]    seeds S, S + 1, .. of every suite with seeds, one at least, until N calls are made
 //! differential --suite NAME [--seed S]   one suite with one seed
 //! differential --case FILE               one case that was written down, in the form of the vectors
 //! differential --mistakes                which suite notices which mistake of the stand-in
@@ -80,7 +80,7 @@ fn asked(mut words: impl Iterator<Item = String>) -> Result<Asked, String> {
 
 fn one_seed(suite: Suite, seed: u64) -> Result<(), String> {
     let run = suite.on(Store::chosen(), seed..seed + 1);
-    let summary = run.map_err(|difference| difference.to_string())?;
+    let summary = run.map_err(|difference| difference.report())?;
     println!(
         "suite {}, seed {seed}: {} calls, no difference",
         suite.name, summary.calls
@@ -91,20 +91,20 @@ fn one_seed(suite: Suite, seed: u64) -> Result<(), String> {
 fn many(first: u64, calls: u64) -> Result<(), String> {
     let began = Instant::now();
     let mut beside = Beside::new(Store::chosen());
-    let mut seed = first;
-    while beside.calls() < calls && !beside.differs() {
+    let mut last = first;
+    loop {
         for suite in ALL.iter().filter(|suite| suite.seeded()) {
-            suite.run(&mut beside, seed);
+            suite.run(&mut beside, last);
         }
-        seed += 1;
+        if beside.calls() >= calls || beside.differs() {
+            break;
+        }
+        last += 1;
     }
-    let summary = beside
-        .finish()
-        .map_err(|difference| difference.to_string())?;
+    let summary = beside.finish().map_err(|difference| difference.report())?;
     let seconds = began.elapsed().as_secs_f64();
     println!(
-        "seeds {first} to {}: {} calls, no difference, {seconds:.0} s",
-        seed - 1,
+        "seeds {first} to {last}: {} calls, no difference, {seconds:.0} s",
         summary.calls
     );
     for ((operation, status), times) in summary.statuses {
