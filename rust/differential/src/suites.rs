@@ -238,8 +238,8 @@ fn random_damage(beside: &mut Beside, seed: u64) {
 }
 
 /// Calls from a formatted data base beside plain lists. After each call the
-/// whole store is read through by calls, forward, backward and in sweeps, and
-/// those calls are compared like all others.
+/// whole store is read through by calls, forward, backward, by number and in
+/// sweeps, and those calls are compared like all others.
 fn runs_from_formatted(beside: &mut Beside, seed: u64) {
     const STEPS: usize = 150;
     let mut seen = std::mem::take(&mut beside.summary.seen);
