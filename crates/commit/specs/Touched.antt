@@ -47,8 +47,8 @@ once (n ∷ ns) = isNew n ns && once ns
 -- ---- blocks
 
 -- the numbers that a `Blocks` holds
-abbrev pub blocksOf : Blocks → List ℕ
-blocksOf s = take (s .count) (s .numbers)
+abbrev pub numbersOf : Blocks → List ℕ
+numbersOf s = take (s .count) (s .numbers)
 
 -- the block lies within n bytes; every block does
 abbrev pub within : ℕ → ℕ → Bool

@@ -27,43 +27,43 @@ use Rattle.plans.specs.PlanLaws.{AllFit}
 use Rattle.plans.specs.PlanOk.{HeadOk, PlanOk}
 use Rattle.plans.specs.Stores.{wordsOf, wordStores, headStores, wipedStores, planStores}
 use Rattle.commit.specs.declared.Blocks.{Blocks}
-use Rattle.commit.specs.Touched.{noWord, isNew, addNew, addAll, blocksOf, within, AllWithin, allSealed, sealEach, storeBlocks, wordBlocks, headBlocks, wipedBlocks, planBlocks}
+use Rattle.commit.specs.Touched.{noWord, isNew, addNew, addAll, numbersOf, within, AllWithin, allSealed, sealEach, storeBlocks, wordBlocks, headBlocks, wipedBlocks, planBlocks}
 
 -- ---- the numbers that a `Blocks` holds, one after the other
 
 module _ (s : Blocks) (whole : length (s .numbers) ≡ 12) (few : s .count ≤ 12) where
-  count-blocks : length (blocksOf s) ≡ s .count
+  count-blocks : length (numbersOf s) ≡ s .count
   count-blocks = length-take-le (s .count) (s .numbers) (omega arith)
 
-  block-is : (i : ℕ) → i < s .count → getD (blocksOf s) i 0 ≡ getD (s .numbers) i 0
+  block-is : (i : ℕ) → i < s .count → getD (numbersOf s) i 0 ≡ getD (s .numbers) i 0
   block-is i h = getD-take (s .count) (s .numbers) i 0 h
 
-  pub blocks-turn : (f : ℕ → Bool) (i : ℕ) → i < s .count → f (getD (s .numbers) i 0) ≡ true → every f (drop i (blocksOf s)) ≡ every f (drop (i + 1) (blocksOf s))
-  blocks-turn f i h e = every-turn f (blocksOf s) i (omega (arith, count-blocks)) (rw (block-is i h) e)
+  pub blocks-turn : (f : ℕ → Bool) (i : ℕ) → i < s .count → f (getD (s .numbers) i 0) ≡ true → every f (drop i (numbersOf s)) ≡ every f (drop (i + 1) (numbersOf s))
+  blocks-turn f i h e = every-turn f (numbersOf s) i (omega (arith, count-blocks)) (rw (block-is i h) e)
 
-  pub blocks-fail : (f : ℕ → Bool) (i : ℕ) → i < s .count → f (getD (s .numbers) i 0) ≡ false → every f (drop i (blocksOf s)) ≡ false
-  blocks-fail f i h e = every-fails f (blocksOf s) i (omega (arith, count-blocks)) (rw (block-is i h) e)
+  pub blocks-fail : (f : ℕ → Bool) (i : ℕ) → i < s .count → f (getD (s .numbers) i 0) ≡ false → every f (drop i (numbersOf s)) ≡ false
+  blocks-fail f i h e = every-fails f (numbersOf s) i (omega (arith, count-blocks)) (rw (block-is i h) e)
 
-  pub blocks-end : (f : ℕ → Bool) (i : ℕ) → s .count ≤ i → every f (drop i (blocksOf s)) ≡ true
-  blocks-end f i h = every-end f (blocksOf s) i (omega (arith, count-blocks))
+  pub blocks-end : (f : ℕ → Bool) (i : ℕ) → s .count ≤ i → every f (drop i (numbersOf s)) ≡ true
+  blocks-end f i h = every-end f (numbersOf s) i (omega (arith, count-blocks))
 
-  pub block-within : (n i : ℕ) → AllWithin n (blocksOf s) → i < s .count → blockAt (getD (s .numbers) i 0) + 512 ≤ n
-  block-within n i w h = rw (block-is i h) at (leb-true (blockAt (getD (blocksOf s) i 0) + 512) n (every-at (within n) (blocksOf s) i w (omega (arith, count-blocks))))
+  pub block-within : (n i : ℕ) → AllWithin n (numbersOf s) → i < s .count → blockAt (getD (s .numbers) i 0) + 512 ≤ n
+  block-within n i w h = rw (block-is i h) at (leb-true (blockAt (getD (numbersOf s) i 0) + 512) n (every-at (within n) (numbersOf s) i w (omega (arith, count-blocks))))
 
-  pub seal-turn : (b : List ℕ) (i : ℕ) → i < s .count → sealEach b (drop i (blocksOf s)) ≡ sealEach (seal b (getD (s .numbers) i 0)) (drop (i + 1) (blocksOf s))
+  pub seal-turn : (b : List ℕ) (i : ℕ) → i < s .count → sealEach b (drop i (numbersOf s)) ≡ sealEach (seal b (getD (s .numbers) i 0)) (drop (i + 1) (numbersOf s))
   unfolding sealEach
-  seal-turn b i h = rw (drop-one (blocksOf s) i (omega (arith, count-blocks)), block-is i h) refl
+  seal-turn b i h = rw (drop-one (numbersOf s) i (omega (arith, count-blocks)), block-is i h) refl
 
-  pub seal-end : (b : List ℕ) (i : ℕ) → s .count ≤ i → sealEach b (drop i (blocksOf s)) ≡ b
+  pub seal-end : (b : List ℕ) (i : ℕ) → s .count ≤ i → sealEach b (drop i (numbersOf s)) ≡ b
   unfolding sealEach
-  seal-end b i h = rw (drop-of-length-le (blocksOf s) {i = i} (omega (arith, count-blocks))) refl
+  seal-end b i h = rw (drop-of-length-le (numbersOf s) {i = i} (omega (arith, count-blocks))) refl
 
 -- one more number, or one that is there
-pub block-added : (s : Blocks) (n : ℕ) → length (s .numbers) ≡ 12 → s .count < 12 → isNew n (blocksOf s) ≡ true
-    → take (s .count + 1) (set (s .numbers) (s .count) n) ≡ addNew (blocksOf s) n
+pub block-added : (s : Blocks) (n : ℕ) → length (s .numbers) ≡ 12 → s .count < 12 → isNew n (numbersOf s) ≡ true
+    → take (s .count + 1) (set (s .numbers) (s .count) n) ≡ addNew (numbersOf s) n
 block-added s n w l h = rw (h, add-one (s .count)) (take-suc-set (s .numbers) (s .count) n (omega arith))
 
-pub block-known : (s : Blocks) (n : ℕ) → isNew n (blocksOf s) ≡ false → blocksOf s ≡ addNew (blocksOf s) n
+pub block-known : (s : Blocks) (n : ℕ) → isNew n (numbersOf s) ≡ false → numbersOf s ≡ addNew (numbersOf s) n
 block-known s n h = rw h refl
 
 -- ---- the words of a plan, one after the other

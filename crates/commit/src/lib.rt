@@ -26,7 +26,7 @@ ghost use Rattle.plans.specs.Plan.{blocksSealed, storeAll, committed};
 ghost use Rattle.plans.specs.PlanLaws.{AllFit};
 ghost use Rattle.plans.specs.PlanOk.{HeadOk, AreaOk, PlanOk};
 ghost use Rattle.plans.specs.Stores.{wordsOf, wordStores, headStores, wipedStores, planStores};
-ghost use Rattle.commit.specs.Touched.{isNew, addNew, addAll, distinct, blocksOf, AllWithin, allSealed, sealEach, wordBlocks, headBlocks, wipedBlocks, planBlocks};
+ghost use Rattle.commit.specs.Touched.{isNew, addNew, addAll, distinct, numbersOf, AllWithin, allSealed, sealEach, wordBlocks, headBlocks, wipedBlocks, planBlocks};
 
 // Numbers of blocks, each once: the first `count` of the array. A plan has at most eleven stores: two of its head, eight words and a wiped
 // record.
@@ -37,7 +37,7 @@ struct Blocks {
 
 impl Blocks {
     fn none() -> Blocks
-        ensures { λ s. ⌜ (blocksOf s ≡ []) × (s .count ≡ 0) ⌝ }
+        ensures { λ s. ⌜ (numbersOf s ≡ []) × (s .count ≡ 0) ⌝ }
     {
         Blocks {
             numbers: [0; 12],
@@ -48,7 +48,7 @@ impl Blocks {
     // Is the block none of these?
     fn is_new(self, n: BlockNo) -> bool
         requires { ⌜ self .count ≤ 12 ⌝ }
-        ensures { λ r. ⌜ r ≡ isNew (n .0) (blocksOf self) ⌝ }
+        ensures { λ r. ⌜ r ≡ isNew (n .0) (numbersOf self) ⌝ }
     {
         let count = self.count;
         let mut i: usize = 0;
@@ -64,7 +64,7 @@ impl Blocks {
     // And this block, unless it is one of them.
     fn with(self, n: BlockNo) -> Blocks
         requires { ⌜ self .count < 12 ⌝ }
-        ensures { λ s. ⌜ (blocksOf s ≡ addNew (blocksOf self) (n .0)) × (s .count ≤ self .count + 1) ⌝ }
+        ensures { λ s. ⌜ (numbersOf s ≡ addNew (numbersOf self) (n .0)) × (s .count ≤ self .count + 1) ⌝ }
     {
         if self.is_new(n) {
             let mut s = self;
@@ -88,7 +88,7 @@ fn block_at(at: u32) -> BlockNo
 fn head_blocks(e: Entry, head: Head, r: RecordNo, q: RecordNo) -> Blocks
     requires { ⌜ LiesIn e 2097152 ⌝ }
     requires { ⌜ HeadOk head e (r .0) (q .0) ⌝ }
-    ensures { λ s. ⌜ (blocksOf s ≡ distinct (headBlocks head e (r .0) (q .0))) × (s .count ≤ 2) ⌝ }
+    ensures { λ s. ⌜ (numbersOf s ≡ distinct (headBlocks head e (r .0) (q .0))) × (s .count ≤ 2) ⌝ }
 {
     let none = Blocks::none();
     match head {
@@ -104,7 +104,7 @@ fn head_blocks(e: Entry, head: Head, r: RecordNo, q: RecordNo) -> Blocks
 // And those of the plan's words.
 fn word_blocks(blocks: Blocks, p: Plan) -> Blocks
     requires { ⌜ (p .count ≤ 8) × (blocks .count ≤ 2) ⌝ }
-    ensures { λ s. ⌜ (blocksOf s ≡ addAll (blocksOf blocks) (wordBlocks (wordsOf p))) × (s .count ≤ 10) ⌝ }
+    ensures { λ s. ⌜ (numbersOf s ≡ addAll (numbersOf blocks) (wordBlocks (wordsOf p))) × (s .count ≤ 10) ⌝ }
 {
     let count = p.count;
     let mut s = blocks;
@@ -121,7 +121,7 @@ fn word_blocks(blocks: Blocks, p: Plan) -> Blocks
 fn wiped_block(blocks: Blocks, e: Entry, r: u32) -> Blocks
     requires { ⌜ LiesIn e 2097152 ⌝ }
     requires { ⌜ (r ≤ e .records) × (blocks .count ≤ 10) ⌝ }
-    ensures { λ s. ⌜ (blocksOf s ≡ addAll (blocksOf blocks) (wipedBlocks e r)) × (s .count ≤ 11) ⌝ }
+    ensures { λ s. ⌜ (numbersOf s ≡ addAll (numbersOf blocks) (wipedBlocks e r)) × (s .count ≤ 11) ⌝ }
 {
     if r == 0 {
         return blocks;
@@ -134,7 +134,7 @@ fn touched(e: Entry, p: Plan) -> Blocks
     requires { ⌜ LiesIn e 2097152 ⌝ }
     requires { ⌜ HeadOk (p .head) e (p .target .0) (p .other .0) ⌝ }
     requires { ⌜ (p .count ≤ 8) × (p .wiped ≤ e .records) ⌝ }
-    ensures { λ s. ⌜ (blocksOf s ≡ distinct (planBlocks e p)) × (s .count ≤ 11) ⌝ }
+    ensures { λ s. ⌜ (numbersOf s ≡ distinct (planBlocks e p)) × (s .count ≤ 11) ⌝ }
 {
     let head = p.head;
     let heads = head_blocks(e, head, p.target, p.other);
@@ -145,8 +145,8 @@ fn touched(e: Entry, p: Plan) -> Blocks
 // Are all their checks true?
 fn all_sealed(base: &[u8], blocks: Blocks) -> bool
     requires { ⌜ blocks .count ≤ 11 ⌝ }
-    requires { ⌜ AllWithin (length (now base)) (blocksOf blocks) ⌝ }
-    ensures { λ r. ⌜ r ≡ allSealed (now (base .entry)) (blocksOf blocks) ⌝ }
+    requires { ⌜ AllWithin (length (now base)) (numbersOf blocks) ⌝ }
+    ensures { λ r. ⌜ r ≡ allSealed (now (base .entry)) (numbersOf blocks) ⌝ }
 {
     let count = blocks.count;
     let mut j: usize = 0;
@@ -163,8 +163,8 @@ fn all_sealed(base: &[u8], blocks: Blocks) -> bool
 // Sets their checks.
 fn seal_all(base: &mut [u8], blocks: Blocks)
     requires { ⌜ blocks .count ≤ 11 ⌝ }
-    requires { ⌜ AllWithin (length (now base)) (blocksOf blocks) ⌝ }
-    ensures { λ _. ⌜ now (base .exit) ≡ sealEach (now (base .entry)) (blocksOf blocks) ⌝ }
+    requires { ⌜ AllWithin (length (now base)) (numbersOf blocks) ⌝ }
+    ensures { λ _. ⌜ now (base .exit) ≡ sealEach (now (base .entry)) (numbersOf blocks) ⌝ }
 {
     let count = blocks.count;
     let mut k: usize = 0;

@@ -8,7 +8,7 @@ use denote.Ref.{now}
 use borrow.Author.Needs.{needs}
 use borrow.Author.Tests.{not-true, not-false}
 use Rattle.blocks.specs.Blocks.{isSealed}
-use Rattle.commit.specs.Touched.{blocksOf, allSealed}
+use Rattle.commit.specs.Touched.{numbersOf, allSealed}
 use Rattle.commit.specs.TouchedLaws.{blocks-turn, blocks-fail, blocks-end, block-within}
 use Rattle.commit.proofs.all_sealed.Statement.{statement}
 use Rattle.commit.proofs.all_sealed.Tie as tie
@@ -17,7 +17,7 @@ use Rattle.commit.proofs.all_sealed.Lts as lts
 use Rattle.blocks.proofs.sealed.Reads as sealed-reads
 
 abbrev Inv-loop : tie.InvT-loop
-Inv-loop base blocks count j₀ j = (j ≤ count) × (allSealed base (drop j (blocksOf blocks)) ≡ allSealed base (blocksOf blocks))
+Inv-loop base blocks count j₀ j = (j ≤ count) × (allSealed base (drop j (numbersOf blocks)) ≡ allSealed base (numbersOf blocks))
 
 abbrev μ-loop : tie.MeasureT-loop
 μ-loop base blocks count j₀ j = count - j
@@ -46,7 +46,7 @@ returns c =
     let l = k .before .before .before in
     let s = l .before .before in
     let a = s .args in
-    let f : allSealed (now (a .base)) (drop (l .loop .j) (blocksOf (a .t2))) ≡ false =
+    let f : allSealed (now (a .base)) (drop (l .loop .j) (numbersOf (a .t2))) ≡ false =
     blocks-fail (a .t2) (whole s) (omega arith) (isSealed (now (a .base))) (l .loop .j) (omega arith) (sym (k .sealed .ensures) ∙ not-true (k .sealed .result) (c .if1 .taken)) in
     sym f ∙ l .loop .inv .1
 

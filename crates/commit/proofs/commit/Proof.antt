@@ -5,7 +5,7 @@ use denote.Ref.{now}
 use borrow.Author.Needs.{needs}
 use Rattle.plans.specs.Plan.{blocksSealed}
 use Rattle.plans.specs.Stores.{planStores}
-use Rattle.commit.specs.Touched.{blocksOf, AllWithin, allSealed}
+use Rattle.commit.specs.Touched.{numbersOf, AllWithin, allSealed}
 use Rattle.commit.specs.CommitLaws.{touched-within, touched-sealed, touched-committed, refused, done}
 use Rattle.commit.proofs.commit.Statement.{statement}
 use Rattle.commit.proofs.commit.Tie as tie
@@ -14,17 +14,17 @@ use Rattle.commit.proofs.commit.Tie as tie
 abbrev begun : tie.After-touched → tie.Start
 begun t = t .before .before .before
 
-inside : (t : tie.After-touched) → AllWithin (length (now (begun t .args .base))) (blocksOf (t .touched .result))
+inside : (t : tie.After-touched) → AllWithin (length (now (begun t .args .base))) (numbersOf (t .touched .result))
 inside t =
     let s = begun t in
     let a = s .args in
-    touched-within (now (a .base)) (a .e) (now (a .area)) (a .p) (s .pre .0) (s .pre .1 .1 .0) (blocksOf (t .touched .result)) (t .touched .ensures .0)
+    touched-within (now (a .base)) (a .e) (now (a .area)) (a .p) (s .pre .0) (s .pre .1 .1 .0) (numbersOf (t .touched .result)) (t .touched .ensures .0)
 
-whether : (t : tie.After-touched) → allSealed (now (begun t .args .base)) (blocksOf (t .touched .result)) ≡ blocksSealed (now (begun t .args .base)) (planStores (now (begun t .args .base)) (begun t .args .e) (now (begun t .args .area)) (begun t .args .p))
+whether : (t : tie.After-touched) → allSealed (now (begun t .args .base)) (numbersOf (t .touched .result)) ≡ blocksSealed (now (begun t .args .base)) (planStores (now (begun t .args .base)) (begun t .args .e) (now (begun t .args .area)) (begun t .args .p))
 whether t =
     let s = begun t in
     let a = s .args in
-    touched-sealed (now (a .base)) (a .e) (now (a .area)) (a .p) (s .pre .0) (s .pre .1 .1 .0) (blocksOf (t .touched .result)) (t .touched .ensures .0)
+    touched-sealed (now (a .base)) (a .e) (now (a .area)) (a .p) (s .pre .0) (s .pre .1 .1 .0) (numbersOf (t .touched .result)) (t .touched .ensures .0)
 
 touched-requires : tie.Need-touched-requires
 touched-requires c κs = search needs
@@ -55,7 +55,7 @@ returns c =
     let s = begun t in
     let a = s .args in
     done (now (a .base)) (k .all-sealed .ensures ∙ whether t) (o .if1 .taken)
-    (touched-committed (now (a .base)) (a .e) (now (a .area)) (a .p) (s .pre .0) (s .pre .1 .1 .0) (blocksOf (t .touched .result)) (t .touched .ensures .0) (d .store .last .0) (l .seal-all .last .0) (λ i. n .slice-known2 .given i .fits) (d .store .ensures) (l .seal-all .ensures))
+    (touched-committed (now (a .base)) (a .e) (now (a .area)) (a .p) (s .pre .0) (s .pre .1 .1 .0) (numbersOf (t .touched .result)) (t .touched .ensures .0) (d .store .last .0) (l .seal-all .last .0) (λ i. n .slice-known2 .given i .fits) (d .store .ensures) (l .seal-all .ensures))
 
 same-length-2 : tie.Need-same-length-2
 same-length-2 c = search needs

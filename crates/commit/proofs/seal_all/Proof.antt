@@ -6,7 +6,7 @@ use native.Mathlib.Omega.{arith}
 use lib.ListN.{length, drop}
 use denote.Ref.{now}
 use borrow.Author.Needs.{needs}
-use Rattle.commit.specs.Touched.{blocksOf, sealEach}
+use Rattle.commit.specs.Touched.{numbersOf, sealEach}
 use Rattle.commit.specs.TouchedLaws.{block-within, seal-turn, seal-end}
 use Rattle.commit.proofs.seal_all.Statement.{statement}
 use Rattle.commit.proofs.seal_all.Tie as tie
@@ -15,7 +15,7 @@ use Rattle.commit.proofs.seal_all.Lts as lts
 use Rattle.blocks.proofs.seal.Reads as seal-reads
 
 abbrev Inv-loop : tie.InvT-loop
-Inv-loop base₀ blocks count k₀ base k = (k ≤ count) × (length base ≡ length base₀) × (sealEach base (drop k (blocksOf blocks)) ≡ sealEach base₀ (blocksOf blocks))
+Inv-loop base₀ blocks count k₀ base k = (k ≤ count) × (length base ≡ length base₀) × (sealEach base (drop k (numbersOf blocks)) ≡ sealEach base₀ (numbersOf blocks))
 
 abbrev μ-loop : tie.MeasureT-loop
 μ-loop base₀ blocks count k₀ base k = count - k

@@ -7,13 +7,13 @@ use native.Mathlib.Omega.{arith}
 use lib.ListN.{length, drop}
 use borrow.Author.Needs.{needs}
 use borrow.Author.Tests.{eq-eqb, ne-eqb}
-use Rattle.commit.specs.Touched.{isOther, isNew, blocksOf}
+use Rattle.commit.specs.Touched.{isOther, isNew, numbersOf}
 use Rattle.commit.specs.TouchedLaws.{blocks-turn, blocks-fail, blocks-end}
 use Rattle.commit.proofs.Blocks.is_new.Statement.{statement}
 use Rattle.commit.proofs.Blocks.is_new.Tie as tie
 
 abbrev Inv-loop : tie.InvT-loop
-Inv-loop n self count i₀ i = (i ≤ count) × (isNew (n .0) (drop i (blocksOf self)) ≡ isNew (n .0) (blocksOf self))
+Inv-loop n self count i₀ i = (i ≤ count) × (isNew (n .0) (drop i (numbersOf self)) ≡ isNew (n .0) (numbersOf self))
 
 abbrev μ-loop : tie.MeasureT-loop
 μ-loop n self count i₀ i = count - i
@@ -34,7 +34,7 @@ returns : tie.Need-returns Inv-loop μ-loop
 returns c =
     let l = c .before .before .before .before in
     let a = l .before .args in
-    let f : isNew (a .n .0) (drop (l .loop .i) (blocksOf (a .t1))) ≡ false = blocks-fail (a .t1) (whole (l .before)) (l .before .pre) (isOther (a .n .0)) (l .loop .i) (omega arith) (ap not (eq-eqb _ _ (c .if1 .taken))) in
+    let f : isNew (a .n .0) (drop (l .loop .i) (numbersOf (a .t1))) ≡ false = blocks-fail (a .t1) (whole (l .before)) (l .before .pre) (isOther (a .n .0)) (l .loop .i) (omega arith) (ap not (eq-eqb _ _ (c .if1 .taken))) in
     sym f ∙ l .loop .inv .1
 
 add-i : tie.Need-add-i Inv-loop μ-loop
