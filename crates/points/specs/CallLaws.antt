@@ -31,7 +31,7 @@ use Rattle.masters.specs.FindLaws.{lowestFree-in}
 use Rattle.chains.specs.declared.Spot.{Spot}
 use Rattle.chains.specs.Points.{spotOn, neighboursAt, addLink, addDamaged, addStores, ownKey, ownLink, delDamaged, delStores}
 use Rattle.points.specs.Rest.{isDone, otherMasters, addStatus, delStatus}
-use Rattle.points.specs.Paths.{linkOf, linkAt, ownLinks, newLinks, both, bothOn, damaged}
+use Rattle.points.specs.Paths.{linkOn, linkAt, ownLinks, newLinks, both, bothOn, damaged}
 use Rattle.points.specs.DamageLaws.{links-in}
 use Rattle.points.specs.PlanLaws.{Built}
 use Rattle.points.specs.SideLaws.{Known, sidesOn, last-is, damaged-is, sides-are, sides-fit}
@@ -146,7 +146,7 @@ module _ (b : List ℕ) (t : Schema) (e : Entry) (area : List ℕ) (spot : Spot)
 
 module _ (b : List ℕ) (t : Schema) (e : Entry) (r : ℕ) (ends : List ℕ) (known : Known b t e (ownKey b t e r) ends) where
   own-at : (k : ℕ) → k < e .count → getD (ownLinks b e r) k noLink ≡ ownLink b t e r k
-  own-at k l = getD-upto (linkOf b e r) (e .count) k noLink l
+  own-at k l = getD-upto (linkOn b e r) (e .count) k noLink l
 
   pub del-damage : (at : List ℕ) → ((k : ℕ) → k < e .count → getD at k 0 ≡ placeOf e r + pathOf e k .at) → damaged b e b at ends (ownLinks b e r) ≡ delDamaged b t e r
   unfolding delDamaged

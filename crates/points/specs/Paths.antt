@@ -37,8 +37,8 @@ firstPlace x p Damaged = 0
 abbrev pub ownerOf : Status → Entry → Path → Found → Owner
 ownerOf absent x p f = record { status = masterStatus absent f; first = firstPlace x p f }
 
-abbrev pub firstOf : List ℕ → Schema → Entry → (ℕ → List ℕ) → ℕ → ℕ
-firstOf b t e key k = firstPlace (mastersOn t e k) (pathOf e k) (findOn b t e k (key k))
+abbrev pub firstPlaceOn : List ℕ → Schema → Entry → (ℕ → List ℕ) → ℕ → ℕ
+firstPlaceOn b t e key k = firstPlace (mastersOn t e k) (pathOf e k) (findOn b t e k (key k))
 
 -- ---- keys and neighbours
 
@@ -46,15 +46,15 @@ abbrev pub keyAt : List ℕ → Entry → List ℕ → ℕ → List ℕ
 keyAt src e at k = run src (getD at k 0) (pathOf e k .len)
 
 -- the neighbours of the record r on path k, and those of a new record
-abbrev pub linkOf : List ℕ → Entry → ℕ → ℕ → Link
-linkOf b e r k = record { prior = priorOn b e r (pathOf e k); next = nextOn b e r (pathOf e k) }
+abbrev pub linkOn : List ℕ → Entry → ℕ → ℕ → Link
+linkOn b e r k = record { prior = priorOn b e r (pathOf e k); next = nextOn b e r (pathOf e k) }
 
 abbrev pub linkAt : List ℕ → Entry → List ℕ → Spot → ℕ → ℕ → Link
 linkAt b e ends spot on k = neighboursAt b e (pathOf e k) (wordAt b (getD ends k 0 + 4)) (spotOn spot on k)
 
 -- on every path
 abbrev pub ownLinks : List ℕ → Entry → ℕ → List Link
-ownLinks b e r = upto (linkOf b e r) (e .count)
+ownLinks b e r = upto (linkOn b e r) (e .count)
 
 abbrev pub newLinks : List ℕ → Entry → List ℕ → Spot → ℕ → List Link
 newLinks b e ends spot on = upto (linkAt b e ends spot on) (e .count)

@@ -32,7 +32,7 @@ use Rattle.masters.specs.FindLaws.{find-at}
 use Rattle.chains.specs.Chains.{priorSide, nextSide}
 use Rattle.chains.specs.Points.{mastersOn, findOn, masterOn, damagedOn}
 use Rattle.points.specs.Rest.{isDone, otherMasters}
-use Rattle.points.specs.Paths.{firstOf, keyAt, cleanAt, damaged, sideWords, wordsOn, wordsBelow}
+use Rattle.points.specs.Paths.{firstPlaceOn, keyAt, cleanAt, damaged, sideWords, wordsOn, wordsBelow}
 use Rattle.points.specs.VariableIn.{VariableIn, EndsIn, LinkIn}
 use Rattle.points.specs.PathLaws.{Held, others-held, filled-at}
 use Rattle.points.specs.DamageLaws.{last-from, uneven-from, ends-inside}
@@ -98,17 +98,17 @@ sidesOn b t e key f g k =
 pub record Known (b : List ℕ) (t : Schema) (e : Entry) (key : ℕ → List ℕ) (ends : List ℕ) : Type 0 where
   pub set : VariableIn t e (length b)
   pub held : (k : ℕ) → k < e .count → Held b t e key k
-  pub firsts : (k : ℕ) → k < e .count → getD ends k 0 ≡ firstOf b t e key k
+  pub firsts : (k : ℕ) → k < e .count → getD ends k 0 ≡ firstPlaceOn b t e key k
 
 -- what the search for the other masters leaves where it refuses none: `read` are the keys as they were read
 pub known-of : (b : List ℕ) (t : Schema) (e : Entry) (on : ℕ) (absent : Status) (read key : ℕ → List ℕ) (ends : List ℕ) (m : RecordNo) → VariableIn t e (length b)
     → ((k : ℕ) → k < e .count → read k ≡ key k) → isDone absent ≡ false → otherMasters b t e on absent key (e .count) ≡ Done → findOn b t e on (key on) ≡ At m
-    → take (e .count) ends ≡ upto (firstOf b t e read) (e .count) → Known b t e key ends
+    → take (e .count) ends ≡ upto (firstPlaceOn b t e read) (e .count) → Known b t e key ends
 known-of b t e on absent read key ends m v same a done named filled =
     record {
       set = v;
       held = others-held b t e on absent key (e .count) m a done named;
-      firsts = λ k l. filled-at (firstOf b t e read) ends (e .count) 0 filled k l ∙ (rw (same k l));
+      firsts = λ k l. filled-at (firstPlaceOn b t e read) ends (e .count) 0 filled k l ∙ (rw (same k l));
     }
 
 module _ (b : List ℕ) (t : Schema) (e : Entry) (key : ℕ → List ℕ) (ends : List ℕ) (known : Known b t e key ends) where

@@ -27,7 +27,7 @@ ghost use Rattle.masters.specs.declared.Found.the-variants.{At};
 ghost use Rattle.masters.specs.Find.{find};
 ghost use Rattle.chains.specs.Points.{findOn};
 ghost use Rattle.points.specs.Rest.{otherMasters};
-ghost use Rattle.points.specs.Paths.{ownerOf, firstOf, keyAt};
+ghost use Rattle.points.specs.Paths.{ownerOf, firstPlaceOn, keyAt};
 ghost use Rattle.points.specs.VariableIn.{MastersIn, VariableIn, KeysIn};
 
 // Where the paths' keys stand in an area of the set.
@@ -155,7 +155,7 @@ pub fn all_owners(
     requires { ⌜ KeysIn e at (length (now src)) ⌝ }
     requires { ⌜ findOn (now base) t e on (keyAt (now src) e at on) ≡ At m ⌝ }
     ensures { λ o. ⌜ o .status ≡ otherMasters (now (base .entry)) t e on absent (keyAt (now (src .entry)) e at) (e .count) ⌝ }
-    ensures { λ o. ⌜ (o .status ≡ Done → take (e .count) (o .ends) ≡ upto (firstOf (now (base .entry)) t e (keyAt (now (src .entry)) e at)) (e .count)) ⌝ }
+    ensures { λ o. ⌜ (o .status ≡ Done → take (e .count) (o .ends) ≡ upto (firstPlaceOn (now (base .entry)) t e (keyAt (now (src .entry)) e at)) (e .count)) ⌝ }
 {
     let paths = e.count as usize;
     let mut ends = [0usize; 4];

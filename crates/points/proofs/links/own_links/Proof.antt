@@ -7,13 +7,13 @@ use denote.Ref.{now}
 use borrow.Author.Needs.{needs}
 use Rattle.octets.specs.Below.{upto}
 use Rattle.octets.specs.BelowLaws.{fill-step}
-use Rattle.points.specs.Paths.{linkOf}
+use Rattle.points.specs.Paths.{linkOn}
 use Rattle.points.specs.PathLaws.{own-link}
 use Rattle.points.proofs.links.own_links.Statement.{statement}
 use Rattle.points.proofs.links.own_links.Tie as tie
 
 abbrev Inv-loop : tie.InvT-loop
-Inv-loop base e r count links₀ k₀ links k = (k ≤ count) × (count ≡ e .count) × (e .count ≤ 4) × (length links ≡ 4) × (take k links ≡ upto (linkOf base e (r .0)) k)
+Inv-loop base e r count links₀ k₀ links k = (k ≤ count) × (count ≡ e .count) × (e .count ≤ 4) × (length links ≡ 4) × (take k links ≡ upto (linkOn base e (r .0)) k)
 
 abbrev μ-loop : tie.MeasureT-loop
 μ-loop base e r count links₀ k₀ links k = count - k
@@ -54,7 +54,7 @@ loop-again c =
       refl,
       l .loop .inv .2,
       search needs,
-      fill-step (linkOf (now (a .base)) (a .e) (a .r .0)) (l .loop .links) (l .loop .k) _ (omega arith) (l .loop .inv .4)
+      fill-step (linkOn (now (a .base)) (a .e) (a .r .0)) (l .loop .links) (l .loop .k) _ (omega arith) (l .loop .inv .4)
           (own-link (now (a .base)) (a .e) (a .r .0) (p .path-of .ensures) (c .own-link .ensures)),
     )
 

@@ -15,7 +15,7 @@ use Rattle.schema.specs.Decode.{entryOf, pathOf}
 use Rattle.chains.specs.Points.{mastersOn, findOn}
 use Rattle.points.specs.declared.Owner.{Owner}
 use Rattle.points.specs.Rest.{otherMasters}
-use Rattle.points.specs.Paths.{ownerOf, firstOf, keyAt}
+use Rattle.points.specs.Paths.{ownerOf, firstPlaceOn, keyAt}
 use Rattle.points.specs.PathLaws.{masters-same, named-same, named-here, owner-same, others-none, others-turn, others-refuse}
 use Rattle.points.proofs.search.all_owners.Statement.{statement}
 use Rattle.points.proofs.search.all_owners.Tie as tie
@@ -27,7 +27,7 @@ Inv-loop base t e src on m absent at paths ends₀ k₀ ends k =
     × (e .count ≤ 4)
     × (length ends ≡ 4)
     × (otherMasters base t e on absent (keyAt src e at) k ≡ Done)
-    × (take k ends ≡ upto (firstOf base t e (keyAt src e at)) k)
+    × (take k ends ≡ upto (firstPlaceOn base t e (keyAt src e at)) k)
 
 abbrev μ-loop : tie.MeasureT-loop
 μ-loop base t e src on m absent at paths ends₀ k₀ ends k = paths - k
@@ -135,7 +135,7 @@ loop-again c =
       search needs,
       others-turn (now (a .base)) (a .t) (a .e) (a .on) (a .absent) (keys s) (l .loop .k) _ (l .loop .inv .4) (ap (λ (o : Owner). o .status) (owned d))
           (sym (c .before .number .ensures) ∙ c .if1 .left),
-      fill-step (firstOf (now (a .base)) (a .t) (a .e) (keys s)) (l .loop .ends) (l .loop .k) _ (omega arith) (l .loop .inv .5) (ap (λ (o : Owner). o .first) (owned d)),
+      fill-step (firstPlaceOn (now (a .base)) (a .t) (a .e) (keys s)) (l .loop .ends) (l .loop .k) _ (omega arith) (l .loop .inv .5) (ap (λ (o : Owner). o .first) (owned d)),
     )
 
 returns-2 : tie.Need-returns-2 Inv-loop μ-loop
