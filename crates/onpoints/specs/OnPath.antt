@@ -26,7 +26,7 @@ use Rattle.chains.specs.declared.Spot.{Spot}
 use Rattle.chains.specs.declared.Spot.the-variants.{Last, After, Before}
 use Rattle.chains.specs.Chains.{isPointOf}
 use Rattle.chains.specs.Points.{mastersOn}
-use Rattle.points.specs.VariableIn.{PathIn, PointsIn, MastersIn, VariableIn, SpotOk}
+use Rattle.points.specs.VariableIn.{PathIn, PointsIn, MastersIn, VariableIn, SpotIn}
 use Rattle.calls.specs.Call.{Call, oneOf, masterCalls, variableCalls}
 use Rattle.calls.specs.Scene.{sceneUnder, pathNamed}
 use Rattle.calls.specs.Ladder.{finders}
@@ -154,7 +154,7 @@ pointerOn back b e p x m r linked = cond linked (cond back (lastOn b x m p) (fir
 -- an add's spot, on a path p of the points e, with the reference r
 pub record Spotted (spot : Spot) (e : Entry) (p : Path) (r : ℕ) (looks : Bool) : Type 0 where
   pub by-reference : spot ≡ spotOf (addAt spot) r
-  pub in-set : SpotOk spot e
+  pub in-set : SpotIn spot e
   pub look : looks ≡ looksAt (addAt spot) p r
   pub looked : looks ≡ true → InSet e r
 

@@ -51,10 +51,10 @@ pub record VariableIn (t : Schema) (e : Entry) (n : ℕ) : Type 0 where
 -- ---- what is read on the way
 
 -- the referenced record is of the set
-abbrev pub SpotOk : Spot → Entry → Type 0
-SpotOk Last e = Unit {0}
-SpotOk (After r) e = InSet e (r .0)
-SpotOk (Before r) e = InSet e (r .0)
+abbrev pub SpotIn : Spot → Entry → Type 0
+SpotIn Last e = Unit {0}
+SpotIn (After r) e = InSet e (r .0)
+SpotIn (Before r) e = InSet e (r .0)
 
 -- first and last of every path lie in a base of n bytes: `ends` are the places of first
 pub record EndsIn (e : Entry) (ends : List ℕ) (n : ℕ) : Type 0 where

@@ -27,7 +27,7 @@ ghost use Rattle.masters.specs.Find.{lowestFree, isFull};
 ghost use Rattle.chains.specs.Points.{findOn, addStores, delStores};
 ghost use Rattle.points.specs.Rest.{addStatus, delStatus};
 ghost use Rattle.points.specs.Paths.{ownLinks, newLinks, bothOn, damaged};
-ghost use Rattle.points.specs.VariableIn.{VariableIn, PointsIn, EndsIn, KeysIn, LinksIn, SpotOk};
+ghost use Rattle.points.specs.VariableIn.{VariableIn, PointsIn, EndsIn, KeysIn, LinksIn, SpotIn};
 ghost use Rattle.points.specs.PlanLaws.{Built};
 
 pub mod damage;
@@ -92,7 +92,7 @@ fn add_known(
     requires { ⌜ PointsIn e (length (now base)) ⌝ }
     requires { ⌜ KeysIn e at (length (now area)) ⌝ }
     requires { ⌜ EndsIn e ends (length (now base)) ⌝ }
-    requires { ⌜ SpotOk spot e ⌝ }
+    requires { ⌜ SpotIn spot e ⌝ }
     ensures { λ r. ⌜ r .status ≡ cond (isFull (now (base .entry)) e) Full (cond (damaged (now (base .entry)) e (now (area .entry)) at ends (newLinks (now (base .entry)) e ends spot on)) Damg Done) ⌝ }
     ensures { λ r. ⌜ (r .status ≡ Done → Built e ends (newLinks (now (base .entry)) e ends spot on) (bothOn e (lowestFree (now (base .entry)) e)) Variable (lowestFree (now (base .entry)) e) 0 (r .plan)) ⌝ }
 {
@@ -143,7 +143,7 @@ pub fn add(
 ) -> Planned
     requires { ⌜ VariableIn t e (length (now base)) ⌝ }
     requires { ⌜ length (now area) ≡ areaLength e ⌝ }
-    requires { ⌜ SpotOk spot e ⌝ }
+    requires { ⌜ SpotIn spot e ⌝ }
     requires { ⌜ on < e .count ⌝ }
     requires { ⌜ findOn (now base) t e on (areaKeyOn e (now area) on) ≡ At m ⌝ }
     ensures { λ r. ⌜ r .status ≡ addStatus (now (base .entry)) t e (now (area .entry)) spot on ⌝ }

@@ -16,7 +16,7 @@ ghost use Rattle.schema.specs.Place.{InSet, LiesIn};
 ghost use Rattle.records.specs.Records.{priorOn, nextOn};
 ghost use Rattle.chains.specs.Points.{spotOn, neighboursAt};
 ghost use Rattle.points.specs.Paths.{ownLinks, newLinks};
-ghost use Rattle.points.specs.VariableIn.{PointsIn, EndsIn, SpotOk};
+ghost use Rattle.points.specs.VariableIn.{PointsIn, EndsIn, SpotIn};
 
 // The neighbours of a record on path p.
 fn own_link(base: &[u8], e: Entry, r: RecordNo, p: Path) -> Link
@@ -51,7 +51,7 @@ pub fn own_links(base: &[u8], e: Entry, r: RecordNo) -> [Link; 4]
 fn neighbours_at(base: &[u8], e: Entry, p: Path, z: u32, spot: Spot) -> Link
     requires { ⌜ LiesIn e (length (now base)) ⌝ }
     requires { ⌜ p .at + p .len + 8 ≤ e .size ⌝ }
-    requires { ⌜ SpotOk spot e ⌝ }
+    requires { ⌜ SpotIn spot e ⌝ }
     ensures { λ l. ⌜ l ≡ neighboursAt (now (base .entry)) e p z spot ⌝ }
 {
     match spot {
@@ -71,7 +71,7 @@ fn neighbours_at(base: &[u8], e: Entry, p: Path, z: u32, spot: Spot) -> Link
 // `first`.
 fn new_link(base: &[u8], e: Entry, first: usize, spot: Spot, on: usize, k: usize) -> Link
     requires { ⌜ PointsIn e (length (now base)) ⌝ }
-    requires { ⌜ SpotOk spot e ⌝ }
+    requires { ⌜ SpotIn spot e ⌝ }
     requires { ⌜ k < e .count ⌝ }
     requires { ⌜ first + 8 ≤ length (now base) ⌝ }
     ensures { λ l. ⌜ l ≡ neighboursAt (now (base .entry)) e (pathOf e k) (wordAt (now (base .entry)) (first + 4)) (spotOn spot on k) ⌝ }
@@ -88,7 +88,7 @@ fn new_link(base: &[u8], e: Entry, first: usize, spot: Spot, on: usize, k: usize
 pub fn new_links(base: &[u8], e: Entry, ends: [usize; 4], spot: Spot, on: usize) -> [Link; 4]
     requires { ⌜ PointsIn e (length (now base)) ⌝ }
     requires { ⌜ EndsIn e ends (length (now base)) ⌝ }
-    requires { ⌜ SpotOk spot e ⌝ }
+    requires { ⌜ SpotIn spot e ⌝ }
     ensures { λ l. ⌜ take (e .count) l ≡ newLinks (now (base .entry)) e ends spot on ⌝ }
 {
     let count = e.count as usize;
