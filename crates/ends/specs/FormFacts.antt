@@ -21,7 +21,7 @@ passed true s u h e = absurd (let z : statusNumber s ≡ 0 = ap statusNumber e i
 passed false s u h e = (refl, e)
 
 -- a test that was asked and passed
-asked : (a b : Bool) → a ≡ true → (a && b) ≡ false → b ≡ false
+pub asked : (a b : Bool) → a ≡ true → (a && b) ≡ false → b ≡ false
 asked true b h e = e
 asked false b h e = absurd (let z : _≡_ {A = ℕ} 0 1 = cc in omega arith)
 

@@ -10,7 +10,6 @@ use lib.ListN.{length}
 use borrow.Author.Tests.{eqb-true, ne-eqb, lt-ltb, le-ltb, ltb-true, not-false}
 use Rattle.octets.specs.Octets.{allBlank}
 use Rattle.octets.specs.RunLaws.{sameBytes-eq}
-use Rattle.octets.specs.BelowLaws.{never-both}
 use Rattle.terms.specs.declared.Status.{Status}
 use Rattle.terms.specs.declared.Status.the-variants.{Done, Fntf, Kind, Area, Klen, Bctl, Keys, Ivrp}
 use Rattle.terms.specs.declared.Status.the-variants as refusals
@@ -38,7 +37,7 @@ use Rattle.calls.specs.Reply.{linkOf}
 use Rattle.calls.specs.Answer.{firstOf, placeTests, formTests}
 use Rattle.forms.specs.Form.{rungsOf, formStatus}
 use Rattle.forms.specs.FormLaws.{form-tests, other-path}
-use Rattle.ends.specs.FormFacts.{passed, key-length, area-length}
+use Rattle.ends.specs.FormFacts.{passed, asked, key-length, area-length}
 use Rattle.ends.specs.Asks.{Laid, Asks, placedStatus}
 use Rattle.onpoints.specs.declared.Located.{Located}
 use Rattle.onpoints.specs.OnPath.{PointCall, PathKnown, OnPath, Locates, onPathStatus, Taken, Reached, ReachedIn}
@@ -71,14 +70,6 @@ delvd-call = record { on-set = refl; of-no-masters = refl; of-points = refl; of-
 
 -- ---- what the forms say of key and reference
 
--- a test that was asked and passed
-asked : (a b : Bool) → a ≡ true → (a && not b) ≡ false → b ≡ true
-asked true b h e = not-false b e
-asked false b h e = absurd (never-both false h refl)
-
-asked-other : (a b d : Bool) → a ≡ true → b ≡ not d → (a && b) ≡ false → d ≡ true
-asked-other a b d h w e = asked a d h (rw (← w) e)
-
 either : (a b : Bool) → (a || b) ≡ true → (a ≡ true) ⊎ (b ≡ true)
 either true b h = inl refl
 either false b h = inr h
@@ -103,13 +94,13 @@ module _ (o : Operation) (e : Entry) (on link k ref : ℕ) (key area : List ℕ)
 
   -- 10
   pub area-key : isMaster e ≡ false → rungsOf o .same ≡ true → areaKeyOn e area on ≡ key
-  area-key v h = sameBytes-eq (areaKeyOn e area on) key (asked-other _ _ _ h (other-path e area on key v) (keys-passed .0))
+  area-key v h = sameBytes-eq (areaKeyOn e area on) key (not-false _ (sym (other-path e area on key v) ∙ asked _ _ h (keys-passed .0)))
 
   -- 11
   pub link-form : rungsOf o .link ≡ true → (ref ≡ link) ⊎ InSet e ref
   link-form h =
       let f = passed (rungsOf o .link && not (eqb ref link || inSet e ref)) Ivrp _ (omega arith) (keys-passed .1) .0 in
-      split (either _ _ (asked (rungsOf o .link) _ h f))
+      split (either _ _ (not-false _ (asked (rungsOf o .link) _ h f)))
     where
       split : (eqb ref link ≡ true) ⊎ (inSet e ref ≡ true) → (ref ≡ link) ⊎ InSet e ref
       split (inl w) = inl (eqb-true ref link w)
@@ -120,7 +111,7 @@ module _ (o : Operation) (e : Entry) (on link k ref : ℕ) (key area : List ℕ)
       let p = passed (rungsOf o .link && not (eqb ref link || inSet e ref)) Ivrp _ (omega arith) (keys-passed .1) in
       let q = passed (rungsOf o .sweep && not (leb ref (e .records))) Ivrp _ (omega arith) (p .1) in
       let r = passed (rungsOf o .last && eqb ref endRef) Ivrp _ (omega arith) (q .1) in
-      inSet-true e ref (asked (rungsOf o .number) _ h (passed (rungsOf o .number && not (inSet e ref)) Ivrp Done (omega arith) (r .1) .0))
+      inSet-true e ref (not-false _ (asked (rungsOf o .number) _ h (passed (rungsOf o .number && not (inSet e ref)) Ivrp Done (omega arith) (r .1) .0)))
 
 -- ---- the scene
 
