@@ -1,12 +1,12 @@
 -- Calls on points behind the forms of their parameters: the named master and the referenced record.
-use Prim.Native.Nat.{ℕ, _+_, _<_}
+use Prim.Native.Nat.{ℕ, _<_}
 use mathlib.Core.Path.{_≡_, refl, sym, ap, _∙_}
 use mathlib.Core.Bool.{Bool, true, false, cond, not, _&&_, _||_, and-eq-true-iff}
 use mathlib.Core.List.{List}
 use native.Mathlib.Omega.{arith}
 use borrow.Author.Tests.{not-false}
-use Rattle.octets.specs.Octets.{sameBytes, run}
-use Rattle.octets.specs.RunLaws.{sameBytes-comm, sameBytes-eq}
+use Rattle.octets.specs.Octets.{sameBytes}
+use Rattle.octets.specs.RunLaws.{sameBytes-eq}
 use Rattle.terms.specs.declared.Status.{Status}
 use Rattle.terms.specs.declared.Status.the-variants.{Done, Ivrp, Mrnf, Damg}
 use Rattle.terms.specs.declared.Operation.{Operation}
@@ -16,7 +16,6 @@ use Rattle.terms.specs.Laws.{status-number-one}
 use Rattle.schema.specs.declared.Path.{Path}
 use Rattle.schema.specs.declared.Entry.{Entry}
 use Rattle.schema.specs.declared.Schema.{Schema}
-use Rattle.schema.specs.Place.{placeOf}
 use Rattle.records.specs.Records.{isLive, keyOn}
 use Rattle.masters.specs.declared.Found.the-variants.{At, Missing, Damaged}
 use Rattle.masters.specs.Find.{find, isMissing, isDamaged}
@@ -34,11 +33,6 @@ use Rattle.onpoints.specs.declared.Sighted.{Sighted}
 use Rattle.onpoints.specs.OnPath.{PointCall, looksAt, OnPath, seekStatus, Sights, Seen, AnswersOnPath, AnswersUnder}
 
 -- ---- what the code has read
-
--- the record's key, compared the other way round
-pub point-read : {live same : Bool} {len : ℕ} (b : List ℕ) (e : Entry) (p : Path) (key : List ℕ) (r : ℕ) → len ≡ p .len → live ≡ isLive b e r
-    → same ≡ sameBytes key (run b (placeOf e r + p .at) len) → (live && same) ≡ isPointOf b e p key r
-point-read b e p key r q l s = rw (l, s, q, sameBytes-comm key (keyOn b e r p)) refl
 
 module _ (b : List ℕ) (e : Entry) (p : Path) (x : Entry) (r : ℕ) (key : List ℕ) (looks : Bool) (s : Sighted) where
   pub sights-damage : find b x key ≡ Damaged → s .status ≡ Damg → Sights b e p x r key looks s

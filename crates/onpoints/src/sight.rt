@@ -2,8 +2,7 @@
 use super::Sighted;
 use masters::Found;
 use masters::walk;
-use records::fields::is_live;
-use records::fields::key_is;
+use points::damage::is_point;
 use schema::Entry;
 use schema::Path;
 use terms::Key;
@@ -14,22 +13,7 @@ ghost use mathlib.Core.Bool.{true};
 ghost use lib.ListN.{length};
 ghost use Rattle.terms.specs.Terms.{keyOf};
 ghost use Rattle.schema.specs.Place.{InSet};
-ghost use Rattle.chains.specs.Chains.{isPointOf};
-ghost use Rattle.points.specs.VariableIn.{PathIn, PointsIn};
 ghost use Rattle.onpoints.specs.OnPath.{Reached, Sights};
-
-// Is the record r live, and of that key on the path?
-fn is_point(base: &[u8], e: Entry, p: Path, key: Key, r: RecordNo) -> bool
-    requires { ⌜ PointsIn e (length (now base)) ⌝ }
-    requires { ⌜ PathIn e p ⌝ }
-    requires { ⌜ key .len ≡ p .len ⌝ }
-    requires { ⌜ InSet e (r .0) ⌝ }
-    ensures { λ s. ⌜ s ≡ isPointOf (now (base .entry)) e p (keyOf key) (r .0) ⌝ }
-{
-    let live = is_live(base, e, r);
-    let same = key_is(base, e, r, p.at as usize, key);
-    live & same
-}
 
 // "find the named master (16, then 12)", then 11 where the call looks at the referenced record.
 pub fn seek(base: &[u8], e: Entry, p: Path, x: Entry, r: u32, key: Key, looks: bool) -> Sighted

@@ -21,7 +21,7 @@ use Rattle.schema.specs.PlaceLaws.{place-inside}
 use Rattle.records.specs.declared.Link.{Link}
 use Rattle.records.specs.Records.{isLive, keyOn, lastOn}
 use Rattle.records.specs.Areas.{noLink}
-use Rattle.chains.specs.Chains.{badNeighbour, unevenEnds}
+use Rattle.chains.specs.Chains.{isPointOf, badNeighbour, unevenEnds}
 use Rattle.chains.specs.SideLaws.{neighbour-ok}
 use Rattle.points.specs.Paths.{keyAt, unevenAt, damagedAt, cleanAt, damaged}
 use Rattle.points.specs.VariableIn.{MastersIn, LinksIn}
@@ -42,6 +42,11 @@ module _ {f : ℕ} (x : Entry) (p : Path) (m : ℕ) (h : f ≡ placeOf x m + p .
 
 -- ---- one neighbour
 
+-- its key, compared the other way round
+pub point-read : {live same : Bool} {len : ℕ} (b : List ℕ) (e : Entry) (p : Path) (key : List ℕ) (r : ℕ) → len ≡ p .len → live ≡ isLive b e r
+    → same ≡ sameBytes key (run b (placeOf e r + p .at) len) → (live && same) ≡ isPointOf b e p key r
+point-read b e p key r q l s = rw (l, s, q, sameBytes-comm key (keyOn b e r p)) refl
+
 module _ (b : List ℕ) (e : Entry) (p : Path) (key : List ℕ) (n : ℕ) where
   pub bad-none : n ≡ 0 → false ≡ badNeighbour b e p key n
   bad-none h = rw (eq-eqb n 0 h)
@@ -49,9 +54,8 @@ module _ (b : List ℕ) (e : Entry) (p : Path) (key : List ℕ) (n : ℕ) where
   pub bad-above : e .records < n → true ≡ badNeighbour b e p key n
   bad-above h = rw (ne-eqb n 0 (λ z. omega arith), le-leb 1 n (omega arith), lt-leb n (e .records) h)
 
-  pub bad-read : (n ≡ 0 → ⊥) → n ≤ e .records → {live same : Bool} {len : ℕ} → len ≡ p .len → live ≡ isLive b e n
-      → same ≡ sameBytes key (run b (placeOf e n + p .at) len) → not (live && same) ≡ badNeighbour b e p key n
-  bad-read z h q l s = rw (l, s, q, ne-eqb n 0 z, le-leb 1 n (omega arith), le-leb n (e .records) h, sameBytes-comm key (keyOn b e n p))
+  pub bad-read : (n ≡ 0 → ⊥) → n ≤ e .records → {point : Bool} → point ≡ isPointOf b e p key n → not point ≡ badNeighbour b e p key n
+  bad-read z h q = rw (q, ne-eqb n 0 z, le-leb 1 n (omega arith), le-leb n (e .records) h)
 
 -- ---- one path, read
 

@@ -14,10 +14,23 @@ ghost use lib.ListN.{length};
 ghost use Rattle.octets.specs.Octets.{run};
 ghost use Rattle.terms.specs.Terms.{keyOf};
 ghost use Rattle.schema.specs.Decode.{pathOf};
-ghost use Rattle.schema.specs.Place.{LiesIn};
-ghost use Rattle.chains.specs.Chains.{badNeighbour};
+ghost use Rattle.schema.specs.Place.{InSet, LiesIn};
+ghost use Rattle.chains.specs.Chains.{isPointOf, badNeighbour};
 ghost use Rattle.points.specs.Paths.{unevenAt, damagedAt, damaged};
 ghost use Rattle.points.specs.VariableIn.{PointsIn, PathIn, EndsIn, KeysIn};
+
+// Is the record r live, and of that key on the path?
+pub fn is_point(base: &[u8], e: Entry, p: Path, key: Key, r: RecordNo) -> bool
+    requires { ⌜ LiesIn e (length (now base)) ⌝ }
+    requires { ⌜ PathIn e p ⌝ }
+    requires { ⌜ key .len ≡ p .len ⌝ }
+    requires { ⌜ InSet e (r .0) ⌝ }
+    ensures { λ s. ⌜ s ≡ isPointOf (now (base .entry)) e p (keyOf key) (r .0) ⌝ }
+{
+    let live = is_live(base, e, r);
+    let same = key_is(base, e, r, p.at as usize, key);
+    live & same
+}
 
 // "a neighbour pointer the call uses is not 0 and is above R, not live, or (variable) of another key on that path"
 pub fn bad_neighbour(base: &[u8], e: Entry, p: Path, key: Key, n: u32) -> bool
@@ -32,10 +45,7 @@ pub fn bad_neighbour(base: &[u8], e: Entry, p: Path, key: Key, n: u32) -> bool
     if e.records < n {
         return true;
     }
-    let r = RecordNo(n);
-    let live = is_live(base, e, r);
-    let same = key_is(base, e, r, p.at as usize, key);
-    !(live & same)
+    !is_point(base, e, p, key, RecordNo(n))
 }
 
 // "first and last are one 0 and one not": first stands at `first`.

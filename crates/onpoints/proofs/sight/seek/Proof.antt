@@ -23,7 +23,7 @@ returns c = sights-master _ _ _ _ _ _ _ _ (sym (c .before .before .before .befor
 is-point-requires : tie.Need-is-point-requires
 is-point-requires c κs =
     let s = c .before .before .before .before .before .before in
-    (s .pre .0 .points, (s .pre .0 .path, (s .pre .1 .0 ∙ sym (s .pre .0 .masters .key), s .pre .1 .1 (not-false _ (c .if1 .left)))))
+    (s .pre .0 .points .lies, (s .pre .0 .path, (s .pre .1 .0 ∙ sym (s .pre .0 .masters .key), s .pre .1 .1 (not-false _ (c .if1 .left)))))
 
 returns-2 : tie.Need-returns-2
 returns-2 c = sights-both _ _ _ _ _ _ _ _ (sym (c .before .before .before .before .before .before .find .ensures .0) ∙ c .before .before .before .before .found .given .1) (not-false _ (c .before .before .if1 .left)) (sym (c .before .is-point .ensures) ∙ c .if2 .taken) refl

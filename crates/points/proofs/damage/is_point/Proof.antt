@@ -1,7 +1,8 @@
-use Rattle.onpoints.specs.SeekLaws.{point-read}
+-- `points::damage::is_point` meets its contract: both tests, joined.
+use Rattle.points.specs.DamageLaws.{point-read}
 use borrow.Author.Needs.{needs}
-use Rattle.onpoints.proofs.sight.is_point.Statement.{statement}
-use Rattle.onpoints.proofs.sight.is_point.Tie as tie
+use Rattle.points.proofs.damage.is_point.Statement.{statement}
+use Rattle.points.proofs.damage.is_point.Tie as tie
 
 is-live-requires : tie.Need-is-live-requires
 is-live-requires c κs = search needs
