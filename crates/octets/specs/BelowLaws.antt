@@ -43,6 +43,13 @@ module _ (f : ℕ → Bool) where
   pub allBelow-turn : (i : ℕ) → allBelow f i ≡ true → f i ≡ true → allBelow f (i + 1) ≡ true
   allBelow-turn i h e = rw (allBelow-suc i, h) e
 
+  -- loops that join their tests by `&`: a turn, and the end
+  pub joined : (i : ℕ) {ok r : Bool} → ok ≡ allBelow f i → r ≡ f i → (ok && r) ≡ allBelow f (i + 1)
+  joined i e q = rw (allBelow-suc i, e, q) refl
+
+  pub joined-all : (n i : ℕ) {ok : Bool} → i ≤ n → n ≤ i → ok ≡ allBelow f i → ok ≡ allBelow f n
+  joined-all n i a b e = let q : i ≡ n = omega arith in rw q at e
+
   -- what a true one says of one number, and what makes it true
   pub allBelow-at : (n i : ℕ) → allBelow f n ≡ true → i < n → f i ≡ true
   unfolding allBelow

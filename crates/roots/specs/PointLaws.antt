@@ -8,7 +8,6 @@ use native.Mathlib.Omega.{arith}
 use lib.Dec.{eqb, ltb}
 use borrow.Author.Tests.{eq-eqb, ne-eqb, ltb-true, ltb-false}
 use Rattle.octets.specs.Below.{allBelow}
-use Rattle.octets.specs.BelowLaws.{allBelow-suc}
 use Rattle.schema.specs.declared.Path.{Path}
 use Rattle.schema.specs.declared.Entry.{Entry}
 use Rattle.schema.specs.declared.Schema.{Schema}
@@ -24,13 +23,6 @@ module _ (b : List ℕ) (e : Entry) (n r : ℕ) (p : Path) where
 
   pub empty-here : {f l : ℕ} → p .master .0 ≡ n → f ≡ firstOn b e r p → l ≡ lastOn b e r p → (eqb f 0 && eqb l 0) ≡ emptyOn b e n r p
   empty-here m f l = rw (eq-eqb (p .master .0) n m, f, l)
-
--- a turn of a loop that joins its answers, and the loop's end
-pub joined : (f : ℕ → Bool) (k : ℕ) {s t : Bool} → s ≡ allBelow f k → t ≡ f k → (s && t) ≡ allBelow f (k + 1)
-joined f k h e = rw (h, e, allBelow-suc f k)
-
-pub joined-all : (f : ℕ → Bool) (n k : ℕ) {s : Bool} → k ≤ n → n ≤ k → s ≡ allBelow f k → s ≡ allBelow f n
-joined-all f n k p q h = let e : k ≡ n = omega arith in rw (← e) h
 
 module _ {t : Schema} (ok : SchemaOk t) where
   split : (i : ℕ) → (i < t .masters) ⊎ (t .masters ≤ i)

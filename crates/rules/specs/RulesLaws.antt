@@ -1,4 +1,4 @@
--- The laws of Rules: how loops that join tests go, how the test of the form does, and what a schema that keeps its rules has.
+-- The laws of Rules: how the test of the form goes, and what a schema that keeps its rules has.
 use Prim.Native.Nat.{ℕ, _+_, _/_, _≤_, _<_}
 use mathlib.Core.Path.{_≡_, refl, sym, _∙_}
 use mathlib.Core.Bool.{Bool, true, false, not, _&&_, _||_, and-false, and-true, and-eq-true-iff}
@@ -12,7 +12,7 @@ use borrow.Author.Tests.{eq-eqb, ne-eqb, not-true, not-false}
 use Rattle.octets.specs.Octets.{byteAt, run, every, is, allZero, sameBytes}
 use Rattle.octets.specs.RunLaws.{every-append}
 use Rattle.octets.specs.Below.{allBelow}
-use Rattle.octets.specs.BelowLaws.{allBelow-suc, allBelow-all}
+use Rattle.octets.specs.BelowLaws.{allBelow-all}
 use Rattle.blocks.specs.Blocks.{isSealed}
 use Rattle.schema.specs.Fields.{setsOf, nameOf}
 use Rattle.schema.specs.Rules.{blockRule, headRule, entryRule, restRule, namesRule, clash, isPathSlot, masterOfSlot, lettersOfSlot, lettersRule, formRule}
@@ -31,15 +31,6 @@ apart s q p = not (clash s p q)
 -- what `formRule` asks past the block and the head
 abbrev pub bodyRule : List ℕ → Bool
 bodyRule s = allBelow (entryRule s) 8 && restRule s && namesRule s && lettersRule s
-
--- ---- loops that join their tests by `&`: a turn, and the end
-
-module _ (f : ℕ → Bool) where
-  pub joined : (i : ℕ) {ok r : Bool} → ok ≡ allBelow f i → r ≡ f i → (ok && r) ≡ allBelow f (i + 1)
-  joined i e q = rw (allBelow-suc f i, e, q) refl
-
-  pub joined-all : (n i : ℕ) {ok : Bool} → i ≤ n → n ≤ i → ok ≡ allBelow f i → ok ≡ allBelow f n
-  joined-all n i a b e = let q : i ≡ n = omega arith in rw q at e
 
 -- ---- a run of zeros, byte by byte
 
@@ -69,8 +60,6 @@ unfolding clash
 unused-apart s q {u} e h =
     let f : isPathSlot s q ≡ false = sym e ∙ not-true u h in
     sym (allBelow-all (apart s q) q (λ p k. rw (f, and-false (isPathSlot s p)) refl))
-
--- ---- what a schema that keeps the form's rules has
 
 -- ---- the ways out of the test of the form
 

@@ -3,9 +3,9 @@ use Prim.Native.Nat.{_-_, _≤_}
 use mathlib.Core.Path.{_≡_, ap, _∙_}
 use denote.Ref.{now}
 use Rattle.octets.specs.Below.{allBelow}
+use Rattle.octets.specs.BelowLaws.{joined, joined-all}
 use Rattle.schema.specs.Decode.{pathOf}
 use Rattle.roots.specs.Shape.{emptyOn}
-use Rattle.roots.specs.PointLaws.{joined, joined-all}
 use borrow.Author.Needs.{needs}
 use Rattle.roots.proofs.empty_in.Statement.{statement}
 use Rattle.roots.proofs.empty_in.Tie as tie

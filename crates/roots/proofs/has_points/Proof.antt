@@ -5,10 +5,11 @@ use mathlib.Core.Bool.{not}
 use native.Mathlib.Omega.{arith}
 use denote.Ref.{now}
 use Rattle.octets.specs.Below.{allBelow}
+use Rattle.octets.specs.BelowLaws.{joined, joined-all}
 use Rattle.schema.specs.Decode.{entryOf, setCount}
 use Rattle.schema.specs.GuaranteeLaws.{lies}
 use Rattle.roots.specs.Shape.{emptyIn}
-use Rattle.roots.specs.PointLaws.{joined, joined-all, paths-few, links-in, points-are}
+use Rattle.roots.specs.PointLaws.{paths-few, links-in, points-are}
 use borrow.Author.Needs.{needs}
 use Rattle.roots.proofs.has_points.Statement.{statement}
 use Rattle.roots.proofs.has_points.Tie as tie

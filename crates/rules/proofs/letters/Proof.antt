@@ -3,8 +3,9 @@ use Prim.Native.Nat.{_-_, _≤_}
 use mathlib.Core.Path.{_≡_}
 use denote.Ref.{now}
 use Rattle.octets.specs.Below.{allBelow}
+use Rattle.octets.specs.BelowLaws.{joined, joined-all}
 use Rattle.schema.specs.Rules.{lettersRule}
-use Rattle.rules.specs.RulesLaws.{apart, joined, joined-all}
+use Rattle.rules.specs.RulesLaws.{apart}
 use borrow.Author.Needs.{needs}
 use Rattle.rules.proofs.letters.Tie as tie
 use Rattle.rules.proofs.letters.Statement.{statement}

@@ -3,8 +3,9 @@ use Prim.Native.Nat.{_-_, _≤_}
 use mathlib.Core.Path.{_≡_}
 use denote.Ref.{now}
 use Rattle.octets.specs.Below.{allBelow}
+use Rattle.octets.specs.BelowLaws.{joined, joined-all}
 use Rattle.schema.specs.Rules.{namesRule}
-use Rattle.rules.specs.RulesLaws.{older, joined, joined-all}
+use Rattle.rules.specs.RulesLaws.{older}
 use borrow.Author.Needs.{needs}
 use Rattle.rules.proofs.names.Tie as tie
 use Rattle.rules.proofs.names.Statement.{statement}

@@ -4,7 +4,8 @@ use mathlib.Core.Path.{_≡_, ap}
 use mathlib.Core.Bool.{not}
 use denote.Ref.{now}
 use Rattle.octets.specs.Below.{allBelow}
-use Rattle.rules.specs.RulesLaws.{apart, joined, joined-all, unused-apart}
+use Rattle.octets.specs.BelowLaws.{joined, joined-all}
+use Rattle.rules.specs.RulesLaws.{apart, unused-apart}
 use borrow.Author.Needs.{needs}
 use Rattle.rules.proofs.new_letters.Tie as tie
 use Rattle.rules.proofs.new_letters.Statement.{statement}

@@ -3,8 +3,8 @@ use Prim.Native.Nat.{_-_, _≤_}
 use mathlib.Core.Path.{_≡_}
 use denote.Ref.{now}
 use Rattle.octets.specs.Below.{allBelow}
+use Rattle.octets.specs.BelowLaws.{joined, joined-all}
 use Rattle.schema.specs.Rules.{slotRule}
-use Rattle.rules.specs.RulesLaws.{joined, joined-all}
 use borrow.Author.Needs.{needs}
 use Rattle.rules.proofs.slots.Tie as tie
 use Rattle.rules.proofs.slots.Statement.{statement}
