@@ -11,7 +11,7 @@ use Rattle.terms.specs.declared.Status.{Status}
 use Rattle.terms.specs.declared.Status.the-variants.{Done, Damg}
 use Rattle.terms.specs.declared.Operation.the-variants.{Formt}
 use Rattle.terms.specs.Terms.{endRef}
-use Rattle.terms.specs.Status.{statusNumber}
+use Rattle.terms.specs.Status.{statusNumber, isDone}
 use Rattle.terms.specs.Laws.{status-number-one}
 use Rattle.schema.specs.declared.Entry.{Entry}
 use Rattle.records.specs.Areas.{areaOf}
@@ -29,9 +29,6 @@ pub record Ends (o : Outcome) (s : Status) (r : ℕ) (a b : List ℕ) : Type 0 w
   pub reference : r ≡ o .reference
   pub area : a ≡ o .area
   pub base : b ≡ o .base
-
-abbrev pub isDone : Status → Bool
-isDone s = eqb (statusNumber s) 0
 
 pub not-done : (s : Status) → 0 < statusNumber s → isDone s ≡ false
 not-done s h = ne-eqb (statusNumber s) 0 (λ e. omega arith)

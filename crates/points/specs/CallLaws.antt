@@ -13,6 +13,7 @@ use Rattle.octets.specs.Below.{upto, concatBelow}
 use Rattle.octets.specs.BelowLaws.{getD-upto}
 use Rattle.terms.specs.declared.Status.{Status}
 use Rattle.terms.specs.declared.Status.the-variants.{Done, Mrnf, Full, Damg}
+use Rattle.terms.specs.Status.{isDone}
 use Rattle.schema.specs.declared.Entry.{Entry}
 use Rattle.schema.specs.declared.Schema.{Schema}
 use Rattle.schema.specs.Decode.{pathOf}
@@ -30,7 +31,7 @@ use Rattle.masters.specs.Find.{lowestFree, isFull}
 use Rattle.masters.specs.FindLaws.{lowestFree-in}
 use Rattle.chains.specs.declared.Spot.{Spot}
 use Rattle.chains.specs.Points.{spotOn, neighboursAt, addLink, addDamaged, addStores, ownKey, ownLink, delDamaged, delStores}
-use Rattle.points.specs.Rest.{isDone, otherMasters, addStatus, delStatus}
+use Rattle.points.specs.Rest.{otherMasters, addStatus, delStatus}
 use Rattle.points.specs.Paths.{linkOn, linkAt, ownLinks, newLinks, both, bothOn, damaged}
 use Rattle.points.specs.DamageLaws.{links-in}
 use Rattle.points.specs.PlanLaws.{Built}

@@ -18,7 +18,7 @@ use Rattle.octets.specs.BelowLaws.{never-both, getD-upto}
 use Rattle.terms.specs.declared.RecordNo.{RecordNo}
 use Rattle.terms.specs.declared.Status.{Status}
 use Rattle.terms.specs.declared.Status.the-variants.{Done, Full, Damg}
-use Rattle.terms.specs.Status.{statusNumber}
+use Rattle.terms.specs.Status.{statusNumber, isDone}
 use Rattle.terms.specs.Laws.{status-number-one}
 use Rattle.schema.specs.declared.Path.{Path}
 use Rattle.schema.specs.declared.Entry.{Entry}
@@ -32,7 +32,7 @@ use Rattle.chains.specs.declared.Spot.{Spot}
 use Rattle.chains.specs.declared.Spot.the-variants.{Last}
 use Rattle.chains.specs.Points.{findOn, spotOn, neighboursAt}
 use Rattle.points.specs.declared.Owner.{Owner}
-use Rattle.points.specs.Rest.{isDone, andThen, masterStatus, otherMaster, otherMasters}
+use Rattle.points.specs.Rest.{andThen, masterStatus, otherMaster, otherMasters}
 use Rattle.points.specs.Paths.{ownerOf}
 use Rattle.points.specs.VariableIn.{MastersIn}
 

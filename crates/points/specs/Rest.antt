@@ -2,12 +2,12 @@
 -- other paths' masters in path order (16, then 12; in DELVD an absent one is 16); 14; 15; 16". Whether the blocks stored into have true
 -- checks is asked by the commit. `on` is the number of the named path.
 use Prim.Native.Nat.{ℕ, zero, suc}
-use mathlib.Core.Bool.{Bool, cond}
+use mathlib.Core.Bool.{cond}
 use mathlib.Core.List.{List}
 use lib.Dec.{eqb}
 use Rattle.terms.specs.declared.Status.{Status}
 use Rattle.terms.specs.declared.Status.the-variants.{Done, Mrnf, Full, Damg}
-use Rattle.terms.specs.Status.{statusNumber}
+use Rattle.terms.specs.Status.{isDone}
 use Rattle.schema.specs.declared.Entry.{Entry}
 use Rattle.schema.specs.declared.Schema.{Schema}
 use Rattle.records.specs.Areas.{areaKeyOn}
@@ -16,9 +16,6 @@ use Rattle.masters.specs.declared.Found.the-variants.{At, Missing, Damaged}
 use Rattle.masters.specs.Find.{isFull}
 use Rattle.chains.specs.declared.Spot.{Spot}
 use Rattle.chains.specs.Points.{findOn, addDamaged, ownKey, delDamaged}
-
-abbrev pub isDone : Status → Bool
-isDone s = eqb (statusNumber s) 0
 
 -- the first of two answers that is a refusal; where neither is, done
 abbrev pub andThen : Status → Status → Status

@@ -14,6 +14,7 @@ use Rattle.octets.specs.BelowLaws.{allBelow-same, concatBelow-same}
 use Rattle.terms.specs.declared.RecordNo.{RecordNo}
 use Rattle.terms.specs.declared.Status.{Status}
 use Rattle.terms.specs.declared.Status.the-variants.{Done}
+use Rattle.terms.specs.Status.{isDone}
 use Rattle.schema.specs.declared.Path.{Path}
 use Rattle.schema.specs.declared.Entry.{Entry}
 use Rattle.schema.specs.declared.Schema.{Schema}
@@ -31,7 +32,7 @@ use Rattle.masters.specs.declared.Found.the-variants.{At}
 use Rattle.masters.specs.FindLaws.{find-at}
 use Rattle.chains.specs.Chains.{priorSide, nextSide}
 use Rattle.chains.specs.Points.{mastersOn, findOn, masterOn, damagedOn}
-use Rattle.points.specs.Rest.{isDone, otherMasters}
+use Rattle.points.specs.Rest.{otherMasters}
 use Rattle.points.specs.Paths.{firstPlaceOn, keyAt, cleanAt, damaged, sideWords, wordsOn, wordsBelow}
 use Rattle.points.specs.VariableIn.{VariableIn, EndsIn, LinkIn}
 use Rattle.points.specs.PathLaws.{Held, others-held, filled-at}

@@ -1,6 +1,8 @@
--- Document 01, "Status numbers": the number and the code of each status. Contracts speak of a status by these two definitions.
+-- Document 01, "Status numbers": the number and the code of each status, and which one is no refusal.
 use Prim.Native.Nat.{ℕ}
+use mathlib.Core.Bool.{Bool}
 use mathlib.Core.List.{List}
+use lib.Dec.{eqb}
 use Rattle.octets.specs.Text.{text}
 use Rattle.terms.specs.declared.Status.{Status}
 use Rattle.terms.specs.declared.Status.the-variants.{Done, Schm, Size, Func, Fntf, Kind, Path, Area, Klen, Bctl, Keys, Ivrp, Mrnf, Dupm, Imdl, Full, Damg}
@@ -23,6 +25,9 @@ statusNumber Dupm = 13
 statusNumber Imdl = 14
 statusNumber Full = 15
 statusNumber Damg = 16
+
+abbrev pub isDone : Status → Bool
+isDone s = eqb (statusNumber s) 0
 
 abbrev pub statusCode : Status → List ℕ
 statusCode Done = text "****"
