@@ -88,6 +88,15 @@ impl Plan {
     }
 }
 
+// A refusal: nothing is to be stored.
+pub fn refused(status: Status) -> Planned
+    ensures { λ q. ⌜ q .status ≡ status ⌝ }
+{
+    let none = [Link { prior: 0, next: 0 }; 4];
+    let plan = Plan::of(Head::Nothing, RecordNo(0), RecordNo(0), none);
+    Planned { status, plan }
+}
+
 // WRITM's and WRITV's plan: the D bytes of the area go into the record r.
 pub fn body_plan(r: RecordNo) -> Planned
     ensures { λ q. ⌜ BodyPlan q (r .0) ⌝ }

@@ -4,6 +4,7 @@ use masters::scan::lowest_free;
 use plans::Head;
 use plans::Plan;
 use plans::Planned;
+use plans::refused;
 use records::Link;
 use schema::Entry;
 use schema::Schema;
@@ -45,15 +46,6 @@ pub struct Owner {
 pub struct Owners {
     pub status: Status,
     pub ends: [usize; 4],
-}
-
-// A refusal: nothing is to be stored.
-fn refused(status: Status) -> Planned
-    ensures { λ r. ⌜ r .status ≡ status ⌝ }
-{
-    let none = [Link { prior: 0, next: 0 }; 4];
-    let plan = Plan::of(Head::Nothing, RecordNo(0), RecordNo(0), none);
-    Planned { status, plan }
 }
 
 // The plan of an add, for the record that it takes.

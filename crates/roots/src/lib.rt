@@ -5,6 +5,7 @@ use masters::walk::held_by_own;
 use plans::Head;
 use plans::Plan;
 use plans::Planned;
+use plans::refused;
 use records::Link;
 use records::fields::first_on;
 use records::fields::is_live;
@@ -61,16 +62,6 @@ fn root_side(p: Plan, e: Entry, r: u32, o: usize, v: u32) -> Plan
     }
     let at = place_of(e, RecordNo(r)) + o;
     p.with_word(at as u32, v)
-}
-
-// A refusal has no plan worth speaking of.
-fn refused(s: Status) -> Planned
-    ensures { λ r. ⌜ r .status ≡ s ⌝ }
-{
-    Planned {
-        status: s,
-        plan: start(Head::Nothing, RecordNo(0), RecordNo(0), 0),
-    }
 }
 
 // "a neighbour pointer the call uses is not 0 and is above R, not live"
