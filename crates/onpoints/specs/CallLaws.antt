@@ -41,11 +41,11 @@ module _ (e : Entry) (r : ℕ) (area b : List ℕ) where
   readd-gives y c o w hr hb ha =
       rw (← hb, ← ha, ← w, ← hr) (gave-answers y c (refusal (restTests y c)) (c .reference) (rest-readd y c o) (rw o refl) (rw o refl) (rw o refl) (rw o refl))
 
-pub readd-ends : {s : Status} {q : ℕ} {new : List ℕ} (e : Entry) (on : ℕ) (p : Path) (x : Entry) (r : ℕ) (key area b : List ℕ) (m : RecordNo) → Seen b e p x r key true m
-    → Ends (gave b e r area) s q new b → AnswersOnPath Readd e on p x r key area b s q new b
-readd-ends e on p x r key area b m g w =
+pub readd-ends : {s : Status} {q : ℕ} {new : List ℕ} (e : Entry) (p : Path) (x : Entry) (r : ℕ) (key area b : List ℕ) (m : RecordNo) → Seen b e p x r key true m
+    → Ends (gave b e r area) s q new b → AnswersOnPath Readd e p x r key area b s q new b
+readd-ends e p x r key area b m g w =
     record {
-      told = λ t c n h at.
+      told = λ t c n on h at.
           ends-as t c n Readd e on p x r key area b readd-call h at (gave b e r area) (g .status)
           (readd-gives e r area b (sceneUnder t c) c (operation-here t c ∙ h .operation) (at .entry) (h .reference) (h .base) (h .area)) w;
     }
@@ -84,12 +84,12 @@ pub read-looks : (back : Bool) (p : Path) (r : ℕ) → not (eqb r (linkOf p)) �
 read-looks true p r = refl
 read-looks false p r = refl
 
-module _ (back linked : Bool) (e : Entry) (on : ℕ) (p : Path) (x : Entry) (r : ℕ) (key area b : List ℕ) (m : RecordNo) (n : ℕ) (l : linked ≡ eqb r (linkOf p))
+module _ (back linked : Bool) (e : Entry) (p : Path) (x : Entry) (r : ℕ) (key area b : List ℕ) (m : RecordNo) (n : ℕ) (l : linked ≡ eqb r (linkOf p))
     (g : Seen b e p x r key (not linked) m) (w : n ≡ pointerOn back b e p x (m .0) r linked) where
   looked : seekStatus b e p x r key (looksAt (readBy back) p r) ≡ Done
   looked = rw (← read-looks back p r, ← l) (g .status)
 
-  module _ (t : Schema) (c : Call) (i : ℕ) (h : Asks c (readBy back) (c .name) r key area b) (at : OnPath t c i e on p x) where
+  module _ (t : Schema) (c : Call) (i on : ℕ) (h : Asks c (readBy back) (c .name) r key area b) (at : OnPath t c i e on p x) where
     abbrev y : Scene
     y = sceneUnder t c
 
@@ -111,14 +111,14 @@ module _ (back linked : Bool) (e : Entry) (on : ℕ) (p : Path) (x : Entry) (r :
         (gave-answers y c (refusal (restTests y c)) n (rest-is ∙ (rw d refl)) (read-given back y c is-read ∙ used)
         (read-after back y c is-read ∙ ap orEnd (read-given back y c is-read ∙ used)) (read-stores back y c is-read .0) (read-stores back y c is-read .1))
 
-  pub read-refused : readDamaged b e p x (m .0) key linked n ≡ true → AnswersOnPath (readBy back) e on p x r key area b Damg r area b
+  pub read-refused : readDamaged b e p x (m .0) key linked n ≡ true → AnswersOnPath (readBy back) e p x r key area b Damg r area b
   read-refused d =
-      record { told = λ t c i h at. rest-refuses t c i (readBy back) e on p x r key area b (read-call back) h at Damg looked (rest-is t c i h at ∙ (rw d refl)) (omega arith) }
+      record { told = λ t c i on h at. rest-refuses t c i (readBy back) e on p x r key area b (read-call back) h at Damg looked (rest-is t c i on h at ∙ (rw d refl)) (omega arith) }
 
   pub read-ends : {s : Status} {q : ℕ} {new : List ℕ} → readDamaged b e p x (m .0) key linked n ≡ false → Ends (gave b e n area) s q new b
-      → AnswersOnPath (readBy back) e on p x r key area b s q new b
+      → AnswersOnPath (readBy back) e p x r key area b s q new b
   read-ends d v =
-      record { told = λ t c i h at. ends-as t c i (readBy back) e on p x r key area b (read-call back) h at (gave b e n area) looked (gives t c i h at d) v }
+      record { told = λ t c i on h at. ends-as t c i (readBy back) e on p x r key area b (read-call back) h at (gave b e n area) looked (gives t c i on h at d) v }
 
 -- a pointer that was tested is none or a record of the set
 or-false : (a b : Bool) → (a || b) ≡ false → b ≡ false

@@ -160,9 +160,9 @@ pub record Spotted (spot : Spot) (e : Entry) (p : Path) (r : ℕ) (looks : Bool)
 
 -- ---- how a call ends
 
--- every call on this path comes to this, whatever the schema
-pub record AnswersOnPath (o : Operation) (e : Entry) (on : ℕ) (p : Path) (x : Entry) (r : ℕ) (k a b : List ℕ) (s : Status) (q : ℕ) (new after : List ℕ) : Type 0 where
-  pub told : (t : Schema) (c : Call) (n : ℕ) → Asks c o (c .name) r k a b → OnPath t c n e on p x → Ends (placedOutcome t c) s q new after
+-- every call on this path comes to this, whatever the schema and the path's number
+pub record AnswersOnPath (o : Operation) (e : Entry) (p : Path) (x : Entry) (r : ℕ) (k a b : List ℕ) (s : Status) (q : ℕ) (new after : List ℕ) : Type 0 where
+  pub told : (t : Schema) (c : Call) (n on : ℕ) → Asks c o (c .name) r k a b → OnPath t c n e on p x → Ends (placedOutcome t c) s q new after
 
 -- and under this schema: the adds and DELVD go to the masters of the other paths
 pub record AnswersUnder (t : Schema) (o : Operation) (e : Entry) (on : ℕ) (p : Path) (x : Entry) (r : ℕ) (k a b : List ℕ) (s : Status) (q : ℕ) (new after : List ℕ) : Type 0 where

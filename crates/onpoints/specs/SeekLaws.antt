@@ -134,13 +134,13 @@ positive s w z = go (statusNumber s) (λ h. z (w ∙ h))
     go : (m : ℕ) → (m ≡ 0 → ⊥) → 0 < m
     go m h = omega (arith, h)
 
-module _ {q : List ℕ} {n : ℕ} (o : Operation) (k : PointCall o) (e : Entry) (on : ℕ) (p : Path) (x : Entry) (r : ℕ) (key area b : List ℕ) (looks : Bool) (s : Sighted)
+module _ {q : List ℕ} {n : ℕ} (o : Operation) (k : PointCall o) (e : Entry) (p : Path) (x : Entry) (r : ℕ) (key area b : List ℕ) (looks : Bool) (s : Sighted)
     (w : Sights b e p x r q looks s) (g : q ≡ key) (l : looks ≡ looksAt o p r) (u : n ≡ statusNumber (s .status)) (z : n ≡ 0 → ⊥) where
   its-status : seekStatus b e p x r key (looksAt o p r) ≡ s .status
   its-status = rw (← l, ← g) (sym (w .status))
 
-  pub by-seek : AnswersOnPath o e on p x r key area b (s .status) r area b
-  by-seek = record { told = λ t c m h at. refused-here t c m o e on p x r key area b k h at (s .status) its-status (positive (s .status) u z) }
+  pub by-seek : AnswersOnPath o e p x r key area b (s .status) r area b
+  by-seek = record { told = λ t c m on h at. refused-here t c m o e on p x r key area b k h at (s .status) its-status (positive (s .status) u z) }
 
-  pub by-seek-under : (t : Schema) → AnswersUnder t o e on p x r key area b (s .status) r area b
-  by-seek-under t = record { told = λ c m h at. refused-here t c m o e on p x r key area b k h at (s .status) its-status (positive (s .status) u z) }
+  pub by-seek-under : (t : Schema) (on : ℕ) → AnswersUnder t o e on p x r key area b (s .status) r area b
+  by-seek-under t on = record { told = λ c m h at. refused-here t c m o e on p x r key area b k h at (s .status) its-status (positive (s .status) u z) }

@@ -54,8 +54,8 @@ writv-stores : (y : Scene) (c : Call) → y .operation ≡ Writv → storesOf y 
 unfolding storesOf
 writv-stores y c o = rw o refl
 
-module _ (e : Entry) (on : ℕ) (p : Path) (x : Entry) (r : ℕ) (key area b : List ℕ) (m : RecordNo) (g : Seen b e p x r key true m) where
-  module _ (t : Schema) (c : Call) (i : ℕ) (h : Asks c Writv (c .name) r key area b) (at : OnPath t c i e on p x) where
+module _ (e : Entry) (p : Path) (x : Entry) (r : ℕ) (key area b : List ℕ) (m : RecordNo) (g : Seen b e p x r key true m) where
+  module _ (t : Schema) (c : Call) (i on : ℕ) (h : Asks c Writv (c .name) r key area b) (at : OnPath t c i e on p x) where
     is-writv : sceneUnder t c .operation ≡ Writv
     is-writv = operation-here t c ∙ h .operation
 
@@ -69,16 +69,16 @@ module _ (e : Entry) (on : ℕ) (p : Path) (x : Entry) (r : ℕ) (key area b : L
         (settled-answers (sceneUnder t c) c _ Done _ (c .reference) (writv-rest ∙ (rw d refl)) (λ z. writv-stores (sceneUnder t c) c is-writv)
         (λ z. writv-after (sceneUnder t c) c is-writv) (writv-same (sceneUnder t c) c is-writv) (rw is-writv refl))
 
-  pub writv-refused : otherStoredKey b e r area ≡ true → AnswersOnPath Writv e on p x r key area b Keys r area b
+  pub writv-refused : otherStoredKey b e r area ≡ true → AnswersOnPath Writv e p x r key area b Keys r area b
   writv-refused d =
-      record { told = λ t c i h at. rest-refuses t c i Writv e on p x r key area b writv-call h at Keys (g .status) (writv-rest t c i h at ∙ (rw d refl)) (omega arith) }
+      record { told = λ t c i on h at. rest-refuses t c i Writv e on p x r key area b writv-call h at Keys (g .status) (writv-rest t c i on h at ∙ (rw d refl)) (omega arith) }
 
   pub writv-ends : {s : Status} {k : ℕ} {new : List ℕ} (q : Planned) → otherStoredKey b e r area ≡ false → BodyPlan q r
-      → Ends (settled (q .status) b (planStores b e area (q .plan)) r r area) s k area new → AnswersOnPath Writv e on p x r key area b s k area new
+      → Ends (settled (q .status) b (planStores b e area (q .plan)) r r area) s k area new → AnswersOnPath Writv e p x r key area b s k area new
   writv-ends q d f v =
       record {
-        told = λ t c i h at.
-            ends-as t c i Writv e on p x r key area b writv-call h at _ (g .status) (written t c i h at d)
+        told = λ t c i on h at.
+            ends-as t c i Writv e on p x r key area b writv-call h at _ (g .status) (written t c i on h at d)
             (rw (f .status, body-stores e area f b) at v);
       }
 

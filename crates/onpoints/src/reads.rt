@@ -33,7 +33,6 @@ ghost use Rattle.onpoints.specs.OnPath.{Reached, Seen, readBy, pointerOn
 // READD: the referenced record.
 pub fn readd(
     e: Entry,
-    on: usize,
     p: Path,
     x: Entry,
     reference: Reference,
@@ -45,7 +44,7 @@ pub fn readd(
     requires { ⌜ length (now key) ≡ x .key ⌝ }
     requires { ⌜ length (now area) ≡ areaLength e ⌝ }
     requires { ⌜ InSet e (reference .0) ⌝ }
-    ensures { λ a. ⌜ AnswersOnPath Readd e on p x (reference .0) (now (key .entry)) (now (area .entry)) (now (base .entry)) (a .status) (a .reference .0) (now (area .exit)) (now (base .entry)) ⌝ }
+    ensures { λ a. ⌜ AnswersOnPath Readd e p x (reference .0) (now (key .entry)) (now (area .entry)) (now (base .entry)) (a .status) (a .reference .0) (now (area .exit)) (now (base .entry)) ⌝ }
 {
     let k = Key::of(key);
     let s = seek(base, e, p, x, reference.0, k, true);
@@ -109,7 +108,6 @@ fn read_damaged(
 // The rest of READV or READR, once the named master m and the referenced record are known.
 fn read_from(
     e: Entry,
-    on: usize,
     p: Path,
     x: Entry,
     m: RecordNo,
@@ -126,7 +124,7 @@ fn read_from(
     requires { ⌜ (linked ≡ false → InSet e (reference .0)) ⌝ }
     requires { ⌜ linked ≡ eqb (reference .0) (linkOf p) ⌝ }
     requires { ⌜ Seen (now base) e p x (reference .0) (keyOf key) (not linked) m ⌝ }
-    ensures { λ a. ⌜ AnswersOnPath (readBy back) e on p x (reference .0) (keyOf key) (now (area .entry)) (now (base .entry)) (a .status) (a .reference .0) (now (area .exit)) (now (base .entry)) ⌝ }
+    ensures { λ a. ⌜ AnswersOnPath (readBy back) e p x (reference .0) (keyOf key) (now (area .entry)) (now (base .entry)) (a .status) (a .reference .0) (now (area .exit)) (now (base .entry)) ⌝ }
 {
     let n = pointer_on(base, e, p, x, m, reference.0, linked, back);
     if read_damaged(base, e, p, x, m, key, linked, n) {
@@ -139,7 +137,6 @@ fn read_from(
 // before."
 pub fn read_along(
     e: Entry,
-    on: usize,
     p: Path,
     x: Entry,
     reference: Reference,
@@ -152,7 +149,7 @@ pub fn read_along(
     requires { ⌜ length (now key) ≡ x .key ⌝ }
     requires { ⌜ length (now area) ≡ areaLength e ⌝ }
     requires { ⌜ (reference .0 ≡ linkOf p) ⊎ InSet e (reference .0) ⌝ }
-    ensures { λ a. ⌜ AnswersOnPath (readBy back) e on p x (reference .0) (now (key .entry)) (now (area .entry)) (now (base .entry)) (a .status) (a .reference .0) (now (area .exit)) (now (base .entry)) ⌝ }
+    ensures { λ a. ⌜ AnswersOnPath (readBy back) e p x (reference .0) (now (key .entry)) (now (area .entry)) (now (base .entry)) (a .status) (a .reference .0) (now (area .exit)) (now (base .entry)) ⌝ }
 {
     let k = Key::of(key);
     let linked = reference.0 == link_of(p);
@@ -161,17 +158,5 @@ pub fn read_along(
     if status.number() != 0 {
         return ended(status, reference);
     }
-    read_from(
-        e,
-        on,
-        p,
-        x,
-        s.master,
-        reference,
-        k,
-        linked,
-        back,
-        area,
-        base,
-    )
+    read_from(e, p, x, s.master, reference, k, linked, back, area, base)
 }

@@ -25,7 +25,6 @@ ghost use Rattle.onpoints.specs.OnPath.{Reached, ReachedIn, addAt, Spott
 // WRITV: "WRITM and WRITV replace the D bytes."
 pub fn writv(
     e: Entry,
-    on: usize,
     p: Path,
     x: Entry,
     reference: Reference,
@@ -37,7 +36,7 @@ pub fn writv(
     requires { ⌜ length (now key) ≡ x .key ⌝ }
     requires { ⌜ length (now area) ≡ areaLength e ⌝ }
     requires { ⌜ InSet e (reference .0) ⌝ }
-    ensures { λ a. ⌜ AnswersOnPath Writv e on p x (reference .0) (now (key .entry)) (now (area .entry)) (now (base .entry)) (a .status) (a .reference .0) (now (area .entry)) (now (base .exit)) ⌝ }
+    ensures { λ a. ⌜ AnswersOnPath Writv e p x (reference .0) (now (key .entry)) (now (area .entry)) (now (base .entry)) (a .status) (a .reference .0) (now (area .entry)) (now (base .exit)) ⌝ }
 {
     let k = Key::of(key);
     let s = seek(base, e, p, x, reference.0, k, true);

@@ -112,8 +112,8 @@ module _ (t : Schema) (o : Operation) (n w : List ℕ) (r : ℕ) (k a b : List �
       }
 
 module _ (t : Schema) (u o : Operation) (w : u ≡ o) (e : Entry) (on : ℕ) (p : Path) (x : Entry) (r : ℕ) (k a b : List ℕ) {s : Status} {q : ℕ} {new after : List ℕ} where
-  pub along-path : AnswersOnPath o e on p x r k a b s q new after → AnswersUnder t u e on p x r k a b s q new after
-  along-path h = record { told = λ c n asks at. h .told t c n (asked-as w asks) at }
+  pub along-path : AnswersOnPath o e p x r k a b s q new after → AnswersUnder t u e on p x r k a b s q new after
+  along-path h = record { told = λ c n asks at. h .told t c n on (asked-as w asks) at }
 
   pub under-path : AnswersUnder t o e on p x r k a b s q new after → AnswersUnder t u e on p x r k a b s q new after
   under-path h = record { told = λ c n asks at. h .told c n (asked-as w asks) at }

@@ -41,10 +41,10 @@ fn carry_out(
     ensures { λ a. ⌜ AnswersUnder t (pointOperation m) e on p x (reference .0) (now (key .entry)) (now (area .entry)) (now (base .entry)) (a .status) (a .reference .0) (now (area .exit)) (now (base .exit)) ⌝ }
 {
     match m {
-        OnPoints::ReadNext => read_along(e, on, p, x, reference, key, false, area, base),
-        OnPoints::ReadPrior => read_along(e, on, p, x, reference, key, true, area, base),
-        OnPoints::Read => readd(e, on, p, x, reference, key, area, base),
-        OnPoints::Write => writv(e, on, p, x, reference, key, area, base),
+        OnPoints::ReadNext => read_along(e, p, x, reference, key, false, area, base),
+        OnPoints::ReadPrior => read_along(e, p, x, reference, key, true, area, base),
+        OnPoints::Read => readd(e, p, x, reference, key, area, base),
+        OnPoints::Write => writv(e, p, x, reference, key, area, base),
         OnPoints::AddLast => addvc(t, e, on, p, x, reference, key, area, base),
         OnPoints::AddBefore => addvb(t, e, on, p, x, reference, key, area, base),
         OnPoints::AddAfter => addva(t, e, on, p, x, reference, key, area, base),

@@ -34,7 +34,7 @@ returns : tie.Need-returns
 returns c =
     let a = c .before .before .before .before .before .before .before .before .before .before .args in
     rw (c .ended .ensures .0, c .ended .ensures .1)
-    (by-seek _ (read-call (a .back)) _ _ _ _ _ _ _ _ _ _ (c .before .before .before .seek .ensures) (c .before .before .before .before .before .before .of .ensures .0) (ap not (linked (c .before .before .before .before .before)) ∙ read-looks (a .back) (a .p) _)
+    (by-seek _ (read-call (a .back)) _ _ _ _ _ _ _ _ _ (c .before .before .before .seek .ensures) (c .before .before .before .before .before .before .of .ensures .0) (ap not (linked (c .before .before .before .before .before)) ∙ read-looks (a .back) (a .p) _)
     (c .before .before .number .ensures) (c .before .if1 .taken))
 
 read-from-requires : tie.Need-read-from-requires

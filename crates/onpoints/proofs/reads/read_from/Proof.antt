@@ -22,7 +22,7 @@ returns : tie.Need-returns
 returns c =
     let s = c .before .before .before .before .before .before in
     rw (c .ended .ensures .0, c .ended .ensures .1)
-    (read-refused (s .args .back) _ _ _ _ _ _ _ _ _ _ _ (s .pre .1 .1 .1 .1 .0) (s .pre .1 .1 .1 .1 .1) (c .before .before .before .pointer-on .ensures) (sym (c .before .before .read-damaged .ensures) ∙ c .before .if1 .taken))
+    (read-refused (s .args .back) _ _ _ _ _ _ _ _ _ _ (s .pre .1 .1 .1 .1 .0) (s .pre .1 .1 .1 .1 .1) (c .before .before .before .pointer-on .ensures) (sym (c .before .before .read-damaged .ensures) ∙ c .before .if1 .taken))
 
 give-requires : tie.Need-give-requires
 give-requires c κs =
@@ -36,7 +36,7 @@ returns-2 : tie.Need-returns-2
 returns-2 c =
     let g = c .before .before in
     let s = g .before .before .before .before .before .before .before in
-    read-ends (s .args .back) _ _ _ _ _ _ _ _ _ _ _ (s .pre .1 .1 .1 .1 .0) (s .pre .1 .1 .1 .1 .1) (g .before .before .before .before .pointer-on .ensures) (sym (g .before .before .before .read-damaged .ensures) ∙ g .before .before .if1 .left) (g .give .ensures)
+    read-ends (s .args .back) _ _ _ _ _ _ _ _ _ _ (s .pre .1 .1 .1 .1 .0) (s .pre .1 .1 .1 .1 .1) (g .before .before .before .before .pointer-on .ensures) (sym (g .before .before .before .read-damaged .ensures) ∙ g .before .before .if1 .left) (g .give .ensures)
 
 pub read-from-spec : {M : Type 1} → statement M
 read-from-spec =

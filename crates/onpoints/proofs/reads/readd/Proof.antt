@@ -21,7 +21,7 @@ ended-requires c κs = search needs
 returns : tie.Need-returns
 returns c =
     rw (c .ended .ensures .0, c .ended .ensures .1)
-    (by-seek _ readd-call _ _ _ _ _ _ _ _ _ _ (c .before .before .before .seek .ensures) (c .before .before .before .before .of .ensures .0) refl (c .before .before .number .ensures) (c .before .if1 .taken))
+    (by-seek _ readd-call _ _ _ _ _ _ _ _ _ (c .before .before .before .seek .ensures) (c .before .before .before .before .of .ensures .0) refl (c .before .before .number .ensures) (c .before .if1 .taken))
 
 give-requires : tie.Need-give-requires
 give-requires c κs = search needs
@@ -32,7 +32,7 @@ same-length c = search needs
 returns-2 : tie.Need-returns-2
 returns-2 c =
     let g = c .before .before in
-    readd-ends _ _ _ _ _ _ _ _ _ (seen _ _ _ _ _ _ _ _ (g .before .before .before .before .seek .ensures) (g .before .before .before .before .before .of .ensures .0) (g .before .before .before .number .ensures) (g .before .before .if1 .left)) (g .give .ensures)
+    readd-ends _ _ _ _ _ _ _ _ (seen _ _ _ _ _ _ _ _ (g .before .before .before .before .seek .ensures) (g .before .before .before .before .before .of .ensures .0) (g .before .before .before .number .ensures) (g .before .before .if1 .left)) (g .give .ensures)
 
 pub readd-spec : {M : Type 1} → statement M
 readd-spec =

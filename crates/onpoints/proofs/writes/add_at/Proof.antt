@@ -29,7 +29,7 @@ same-length c = search needs
 returns : tie.Need-returns
 returns c =
     rw (c .ended .ensures .0, c .ended .ensures .1)
-    (by-seek-under _ (add-call (c .before .before .before .before .before .before .before .before .before .args .spot)) _ _ _ _ _ _ _ _ _ _ (c .before .before .before .seek .ensures) (c .before .before .before .before .before .of .ensures .0) (c .before .before .before .before .before .before .before .before .before .pre .1 .1 .1 .1 .look) (c .before .before .number .ensures) (c .before .if1 .taken) _)
+    (by-seek-under _ (add-call (c .before .before .before .before .before .before .before .before .before .args .spot)) _ _ _ _ _ _ _ _ _ (c .before .before .before .seek .ensures) (c .before .before .before .before .before .of .ensures .0) (c .before .before .before .before .before .before .before .before .before .pre .1 .1 .1 .1 .look) (c .before .before .number .ensures) (c .before .if1 .taken) _ _)
 
 add-requires : tie.Need-add-requires
 add-requires c κs =

@@ -30,7 +30,7 @@ same-length c = search needs
 returns : tie.Need-returns
 returns c =
     rw (c .ended .ensures .0, c .ended .ensures .1)
-    (by-seek-under _ delvd-call _ _ _ _ _ _ _ _ _ _ (c .before .before .before .seek .ensures) (c .before .before .before .before .before .of .ensures .0) refl (c .before .before .number .ensures) (c .before .if1 .taken) _)
+    (by-seek-under _ delvd-call _ _ _ _ _ _ _ _ _ (c .before .before .before .seek .ensures) (c .before .before .before .before .before .of .ensures .0) refl (c .before .before .number .ensures) (c .before .if1 .taken) _ _)
 
 prior-on-requires : tie.Need-prior-on-requires
 prior-on-requires c κs =

@@ -25,7 +25,7 @@ same-length c = search needs
 returns : tie.Need-returns
 returns c =
     rw (c .ended .ensures .0, c .ended .ensures .1)
-    (by-seek _ writv-call _ _ _ _ _ _ _ _ _ _ (c .before .before .before .seek .ensures) (c .before .before .before .before .before .of .ensures .0) refl (c .before .before .number .ensures) (c .before .if1 .taken))
+    (by-seek _ writv-call _ _ _ _ _ _ _ _ _ (c .before .before .before .seek .ensures) (c .before .before .before .before .before .of .ensures .0) refl (c .before .before .number .ensures) (c .before .if1 .taken))
 
 other-stored-key-requires : tie.Need-other-stored-key-requires
 other-stored-key-requires c κs =
@@ -41,7 +41,7 @@ same-length-2 c = search needs
 returns-2 : tie.Need-returns-2
 returns-2 c =
     rw (c .ended2 .ensures .0, c .ended2 .ensures .1)
-    (writv-refused _ _ _ _ _ _ _ _ _ (seen _ _ _ _ _ _ _ _ (c .before .before .before .before .before .before .seek .ensures) (c .before .before .before .before .before .before .before .before .of .ensures .0) (c .before .before .before .before .before .number .ensures) (c .before .before .before .before .if1 .left)) (sym (c .before .before .other-stored-key .ensures) ∙ c .before .if2 .taken))
+    (writv-refused _ _ _ _ _ _ _ _ (seen _ _ _ _ _ _ _ _ (c .before .before .before .before .before .before .seek .ensures) (c .before .before .before .before .before .before .before .before .of .ensures .0) (c .before .before .before .before .before .number .ensures) (c .before .before .before .before .if1 .left)) (sym (c .before .before .other-stored-key .ensures) ∙ c .before .if2 .taken))
 
 body-plan-requires : tie.Need-body-plan-requires
 body-plan-requires c κs = search needs
@@ -57,7 +57,7 @@ same-length-3 c = search needs
 returns-3 : tie.Need-returns-3
 returns-3 c =
     let g = c .before .before in
-    writv-ends _ _ _ _ _ _ _ _ _ (seen _ _ _ _ _ _ _ _ (g .before .before .before .before .before .before .before .before .seek .ensures) (g .before .before .before .before .before .before .before .before .before .before .of .ensures .0) (g .before .before .before .before .before .before .before .number .ensures) (g .before .before .before .before .before .before .if1 .left)) _ (sym (g .before .before .before .before .other-stored-key .ensures) ∙ g .before .before .before .if2 .left) (g .before .before .body-plan .ensures) (g .settle .ensures)
+    writv-ends _ _ _ _ _ _ _ _ (seen _ _ _ _ _ _ _ _ (g .before .before .before .before .before .before .before .before .seek .ensures) (g .before .before .before .before .before .before .before .before .before .before .of .ensures .0) (g .before .before .before .before .before .before .before .number .ensures) (g .before .before .before .before .before .before .if1 .left)) _ (sym (g .before .before .before .before .other-stored-key .ensures) ∙ g .before .before .before .if2 .left) (g .before .before .body-plan .ensures) (g .settle .ensures)
 
 pub writv-spec : {M : Type 1} → statement M
 writv-spec =
