@@ -157,12 +157,12 @@ pub fn delm(
     }
 }
 
-// RQLOC: "RQLOC returns the home." It looks for no master, and neither area nor base is touched.
-pub fn rqloc(e: Entry, reference: Reference, key: &[u8]) -> Answer
+// RQLOC: "RQLOC returns the home." It looks for no master and at no reference, and neither area nor base is touched.
+pub fn rqloc(e: Entry, key: &[u8]) -> Answer
     requires { ⌜ MasterOk e ⌝ }
     requires { ⌜ 1 ≤ e .records ⌝ }
     requires { ⌜ length (now key) ≡ e .key ⌝ }
-    ensures { λ a. ⌜ ((area b : List ℕ) → AnswersOn Rqloc e (reference .0) (now (key .entry)) area b (a .status) (a .reference .0) area b) ⌝ }
+    ensures { λ a. ⌜ ((r : ℕ) (area b : List ℕ) → AnswersOn Rqloc e r (now (key .entry)) area b (a .status) (a .reference .0) area b) ⌝ }
 {
     let k = Key::of(key);
     let home = k.home(e.records);

@@ -38,7 +38,7 @@ fn carry_out(
         OnMasters::Delete => delm(t, n, e, reference, key, area, base),
         OnMasters::Read => readm(e, reference, key, area, base),
         OnMasters::Write => writm(e, reference, key, area, base),
-        OnMasters::Locate => rqloc(e, reference, key),
+        OnMasters::Locate => rqloc(e, key),
     }
 }
 

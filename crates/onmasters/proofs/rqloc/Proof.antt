@@ -20,7 +20,7 @@ returns : tie.Need-returns
 returns c =
     let n = c .before in
     let w = told-home _ _ _ (n .before .home .ensures) (n .before .before .of .ensures .0) in
-    λ area b. rqloc-ends _ _ _ _ _ (c .ended .ensures .0) (ap (λ r. r .0) (c .ended .ensures .1) ∙ n .number .ensures ∙ w)
+    λ r area b. rqloc-ends _ _ _ _ _ (c .ended .ensures .0) (ap (λ r. r .0) (c .ended .ensures .1) ∙ n .number .ensures ∙ w)
 
 pub rqloc-spec : {M : Type 1} → statement M
 rqloc-spec = tie.close (tie.spec of-requires home-requires number-requires ended-requires returns)

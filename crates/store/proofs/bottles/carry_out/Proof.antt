@@ -93,7 +93,7 @@ returns-4 : tie.Need-returns-4
 returns-4 c = carried-on _ _ _ _ (ap masterOperation (c .before .before .before .before .before .enum-told4 .given .1)) _ _ _ _ _ (c .before .before .writm .ensures)
 
 returns-5 : tie.Need-returns-5
-returns-5 c = carried-on _ _ _ _ (ap masterOperation (c .before .enum-told5 .given .1)) _ _ _ _ _ (c .rqloc .ensures _ _)
+returns-5 c = carried-on _ _ _ _ (ap masterOperation (c .before .enum-told5 .given .1)) _ _ _ _ _ (c .rqloc .ensures _ _ _)
 
 pub carry-out-spec : {M : Type 1} → statement M
 carry-out-spec =
