@@ -2,6 +2,7 @@
  *
  * Every buffer of the store stands against a page that nobody may touch. After each call the answer, the area and every byte of the base
  * are compared with the model's, and what a refused call must leave alone with what was given. Each run ends with SINON. */
+#include <stdbool.h>
 #include <stdio.h>
 #include <stdlib.h>
 #include <string.h>
@@ -10,8 +11,14 @@
 #include "input.h"
 #include "yarugota.h"
 
-uint64_t model_call(const uint8_t *op, const uint8_t *set, uint32_t reference, const uint8_t *path, const uint8_t *key, size_t key_len,
-                    uint8_t *area, size_t area_len, const uint8_t *schema, size_t schema_len, uint8_t *base, size_t base_len);
+/* Where `wrong`, with the mistake that YARUGOTA_FAULT names. */
+uint64_t model_call(bool wrong, const uint8_t *op, const uint8_t *set, uint32_t reference, const uint8_t *path, const uint8_t *key,
+                    size_t key_len, uint8_t *area, size_t area_len, const uint8_t *schema, size_t schema_len, uint8_t *base,
+                    size_t base_len);
+
+#ifdef MODEL_AS_STORE
+#define yarugota_call(...) model_call(true, __VA_ARGS__)
+#endif
 
 int LLVMFuzzerTestOneInput(const uint8_t *data, size_t size);
 
@@ -120,7 +127,7 @@ static void make_call(struct run *run, const struct call *call)
     struct given given = place(run, call);
     memcpy(area_after, call->area, call->area_length);
     memcpy(base_after, run->base, call->base_length);
-    uint64_t expected = model_call(call->op, call->set, call->reference, call->path, call->key, call->key_length, area_after,
+    uint64_t expected = model_call(false, call->op, call->set, call->reference, call->path, call->key, call->key_length, area_after,
                                    call->area_length, run->schema, call->schema_length, base_after, call->base_length);
     uint64_t answer = yarugota_call(given.op, given.set, call->reference, given.path, given.key, call->key_length, given.area,
                                     call->area_length, given.schema, call->schema_length, given.base, call->base_length);

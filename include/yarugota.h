@@ -9,7 +9,7 @@
  * blocks the data base has, and call FORMT for a new data base or SINON for one that was kept; then the other calls.
  *
  * `tools/archives` builds two archives, which may be linked together: libstore.a has yarugota_call, libprobes.a has the
- * other four functions. yarugota_code, which is inline here, is the only one that is not proved.
+ * other four functions. The two that are inline here, yarugota_code and yarugota_call_key_in_area, are not proved.
  */
 #ifndef YARUGOTA_H
 #define YARUGOTA_H
@@ -95,10 +95,27 @@ static inline const char *yarugota_code(enum yarugota_status status)
  *   of RQLOC, the home; of DELVD, the record before on the path, or LKxx where there was none
  *   of the others, and of every call that is refused (status not 0), the reference as it was given
  * A refused call leaves area and data base as they were. A read that gives a record replaces the whole area; no other
- * call changes it. The buffers must not overlap: the key must not point into the area either. */
+ * call changes it. The buffers must not overlap. The key must not point into the area either: for one that does there
+ * is yarugota_call_key_in_area. */
 uint64_t yarugota_call(const uint8_t *op /* 5 bytes */, const uint8_t *set /* 4 bytes */, uint32_t reference,
                        const uint8_t *path /* 8 bytes */, const uint8_t *key, size_t key_len, uint8_t *area,
                        size_t area_len, const uint8_t *schema, size_t schema_len, uint8_t *base, size_t base_len);
+
+/* The same call for a key that lies inside the area, or anywhere else: 004 (6.5.3) tells its users to keep control key
+ * and area key in one place. It answers and stores as yarugota_call does for the same key in a buffer of its own, since
+ * it makes such a buffer. No set has keys of more than 16 bytes. So of a longer key the call sees only that it is too
+ * long, whatever its bytes are, and 17 of them are enough for that. */
+static inline uint64_t yarugota_call_key_in_area(const uint8_t *op, const uint8_t *set, uint32_t reference,
+                                                 const uint8_t *path, const uint8_t *key, size_t key_len, uint8_t *area,
+                                                 size_t area_len, const uint8_t *schema, size_t schema_len,
+                                                 uint8_t *base, size_t base_len)
+{
+    uint8_t copy[17] = {0};
+    size_t copied = key_len < sizeof copy ? key_len : sizeof copy;
+    for (size_t at = 0; at < copied; at++)
+        copy[at] = key[at];
+    return yarugota_call(op, set, reference, path, copy, copied, area, area_len, schema, schema_len, base, base_len);
+}
 
 /* The two parts of that answer. */
 #define YARUGOTA_STATUS(answer) ((enum yarugota_status)((answer) >> 32))

@@ -1,8 +1,8 @@
 //! Builds the driver with the proved store, a program for x86-64 as the proved
-//! library is, and with the stand-in, a program for this machine.
+//! library is.
 //!
-//! Where the proved library is missing, the first driver is not built, and
-//! whoever starts it is told so: the tests of other packages need not wait.
+//! Where the library is missing, no driver is built, and whoever starts it is
+//! told so: the tests of other packages need not wait.
 
 use std::env;
 use std::path::{Path, PathBuf};
@@ -15,11 +15,9 @@ fn main() {
     let archive = repository.join("target/staticlib/libstore.a");
     let compiler = repository.join("tools/cc-x86");
     let runner = repository.join("tools/run-x86");
-    let (driver, stand_in) = (package.join("driver.c"), package.join("stand_in.c"));
-    let parts = package.join("stand_in");
-    let include = repository.join("include");
-    let header = include.join("yarugota.h");
-    for path in [&archive, &compiler, &driver, &stand_in, &parts, &header] {
+    let driver = package.join("driver.c");
+    let header = repository.join("include/yarugota.h");
+    for path in [&archive, &compiler, &driver, &header] {
         println!("cargo:rerun-if-changed={}", path.display());
     }
     println!("cargo:rerun-if-changed=build.rs");
@@ -30,14 +28,7 @@ fn main() {
         run(Command::new(compiler).args([&program, &driver, &archive]));
         proved = shown(&program);
     }
-    let program = out.join("stand-in");
-    run(Command::new("cc")
-        .args(["-std=c11", "-O2", "-Wall", "-Wextra", "-Werror", "-I"])
-        .args([&include, &driver, &stand_in])
-        .arg("-o")
-        .arg(&program));
     println!("cargo:rustc-env=DRIVER_PROVED={proved}");
-    println!("cargo:rustc-env=DRIVER_STAND_IN={}", shown(&program));
     println!("cargo:rustc-env=RUN_X86={}", shown(&runner));
 }
 

@@ -1,9 +1,11 @@
-/* Calls the store for a program on the other end of a pipe: a batch of requests in, their answers out, until the input ends.
+/* driver [MISTAKE]: calls the store for a program on the other end of a pipe: a batch of requests in, their answers out, until the input
+ * ends.
  *
  * Batch: its length (4 bytes), then the requests. Numbers are big-endian.
  *   S length schema     the schema from here on; no answer
  *   B length base       the data base from here on, kept for R; no answer
  *   R                   the data base as the last B gave it; no answer
+ *   K offset            the key of the next call lies in its area, from there on; no answer
  *   C op set reference path length key length area
  *                       a call. Answer: what went wrong beside the call itself (1 byte, 0 for nothing), status and reference (4 each), the
  *                       area after the call, and what the call changed in the data base: the number of runs (4), then each run's offset,
@@ -11,7 +13,8 @@
  * A batch is read whole before its first answer is written, so the two ends never wait for each other.
  *
  * Every buffer goes over between guard bytes and at an odd address. After each call the guards are looked at, and the buffers that should
- * only be read are compared with what was given. */
+ * only be read are compared with what was given. To try that, the driver can be told to do itself what a store in C might do beside its
+ * answer: one of those mistakes of rust/model/src/fault.rs which the model cannot make. */
 #include <stdio.h>
 #include <stdlib.h>
 #include <string.h>
@@ -20,6 +23,7 @@
 
 enum { GUARD = 67, FILL = 0xC3, BLOCK = 512 };
 enum { FINE = 0, BESIDE = 1, READ_ONLY = 2 };
+#define ELSEWHERE SIZE_MAX
 
 /* Bytes between their guards. */
 struct guarded {
@@ -28,6 +32,9 @@ struct guarded {
 };
 
 static struct guarded op, set, path, key, area, schema, base;
+
+/* Where in the area the next call's key lies. */
+static size_t key_at = ELSEWHERE;
 
 /* The data base before a call, and as the last B gave it. */
 static uint8_t *before, *kept;
@@ -146,6 +153,40 @@ static void load_base(const uint8_t *bytes, size_t length)
     memcpy(before, bytes, length);
 }
 
+/* The mistake that is made after calls that are done, if any. */
+static const char *mistake = "";
+
+static int makes(const char *name, const char *after)
+{
+    return strcmp(mistake, name) == 0 && memcmp(inside(&op), after, strlen(after)) == 0;
+}
+
+static void make_mistake(uint64_t answer)
+{
+    if (YARUGOTA_STATUS(answer) != YARUGOTA_DONE)
+        return;
+    if ((makes("BesideTheArea", "READ") || makes("BesideTheArea", "RDNXT")) && YARUGOTA_REFERENCE(answer) != YARUGOTA_END)
+        inside(&area)[area.length] = 0;
+    if (makes("KeyWritten", "DEL-M"))
+        memset(inside(&key), 0, key.length);
+    if (makes("BroughtDown", "WRITV"))
+        abort();
+}
+
+/* The entry for a key that lies in the area is called with that one, the other with the key's own buffer. */
+static uint64_t call_store(uint32_t reference)
+{
+    size_t from = key_at;
+    key_at = ELSEWHERE;
+    if (from == ELSEWHERE)
+        return yarugota_call(inside(&op), inside(&set), reference, inside(&path), inside(&key), key.length, inside(&area), area.length,
+                             inside(&schema), schema.length, inside(&base), base.length);
+    if (from > area.length || key.length > area.length - from || !unchanged(&key, inside(&area) + from))
+        stop("the key does not lie there");
+    return yarugota_call_key_in_area(inside(&op), inside(&set), reference, inside(&path), inside(&area) + from, key.length, inside(&area),
+                                     area.length, inside(&schema), schema.length, inside(&base), base.length);
+}
+
 static void serve_call(void)
 {
     const uint8_t *given_op = take(5), *given_set = take(4);
@@ -161,8 +202,8 @@ static void serve_call(void)
     place(&key, given_key, key_length);
     place(&area, given_area, area_length);
 
-    uint64_t answer = yarugota_call(inside(&op), inside(&set), reference, inside(&path), inside(&key), key_length, inside(&area),
-                                    area_length, inside(&schema), schema.length, inside(&base), base.length);
+    uint64_t answer = call_store(reference);
+    make_mistake(answer);
 
     uint8_t wrong = FINE;
     if (!unchanged(&op, given_op) || !unchanged(&set, given_set) || !unchanged(&path, given_path) || !unchanged(&key, given_key)
@@ -200,6 +241,9 @@ static void serve(void)
     case 'R':
         load_base(kept, base.length);
         return;
+    case 'K':
+        key_at = number(take(4));
+        return;
     case 'C':
         serve_call();
         return;
@@ -208,10 +252,12 @@ static void serve(void)
     }
 }
 
-int main(void)
+int main(int count, char **words)
 {
     uint8_t head[4];
     const uint8_t nothing = 0;
+    if (count > 1)
+        mistake = words[1];
     given_schema = room_for(NULL, 0);
     kept = room_for(NULL, 0);
     place(&schema, &nothing, 0);

@@ -15,7 +15,7 @@ ghost use lib.ListN.{length};
 ghost use Rattle.octets.specs.Octets.{run, splice, wordBytes};
 ghost use Rattle.schema.specs.Place.{InSet, LiesIn, placeOf};
 ghost use Rattle.records.specs.Areas.{isMaster, areaKeyPlace, areaKeys, areaLength, areaBody, areaOf, newMaster, newPaths, newVariable};
-ghost use Rattle.areas.specs.AreaLaws.{Fields};
+ghost use Rattle.records.specs.Fields.{Fields};
 
 // "state byte (1 live), three zeros", as the first word of a record
 const LIVE: u32 = 0x01000000;
@@ -72,9 +72,11 @@ pub fn put_body(base: &mut [u8], e: Entry, r: RecordNo, area: &[u8])
     requires { ⌜ length (now area) ≡ areaLength e ⌝ }
     ensures { λ _. ⌜ now (base .exit) ≡ splice (now (base .entry)) (placeOf e (r .0) + e .body) (areaBody e (now (area .entry))) ⌝ }
 {
-    let at = place_of(e, r) + (e.body as usize);
     let from = area_keys(e);
-    copy_part(base, at, area, from, e.room as usize);
+    let at = place_of(e, r);
+    let end = at + (e.size as usize);
+    let part = &mut base[at..end];
+    copy_part(part, e.body as usize, area, from, e.room as usize);
 }
 
 // A master's key and D bytes, read into the area.

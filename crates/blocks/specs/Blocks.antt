@@ -1,5 +1,5 @@
 -- Document 01, "Blocks and the schema": blocks of 512 bytes and their checks.
-use Prim.Native.Nat.{ℕ, _+_, _*_, _≤_}
+use Prim.Native.Nat.{ℕ, _+_, _*_, _/_, _≤_}
 use mathlib.Core.Bool.{Bool}
 use mathlib.Core.List.{List}
 use lib.Dec.{eqb}
@@ -9,6 +9,10 @@ use Rattle.octets.specs.Octets.{run, sumOnto, wordAt, setWord}
 -- "A block is 512 bytes"; "The data base's blocks are numbered from 0": where block n begins
 abbrev pub blockAt : ℕ → ℕ
 blockAt n = n * 512
+
+-- the block that a place lies in
+abbrev pub blockWith : ℕ → ℕ
+blockWith at = at / 512
 
 -- "bytes 508..511 are its check": where block n's check stands
 abbrev pub checkAt : ℕ → ℕ

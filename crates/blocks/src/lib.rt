@@ -1,8 +1,34 @@
-// Blocks of 512 bytes, each with its check in its last four. A block is handed on as a part of the data base.
+// Blocks of 512 bytes, each with its check in its last four. A block is handed on as a part of the data base. Here, and nowhere else, the
+// number of a block becomes its place in the data base, and a place the number of its block.
 ghost use mathlib.Core.Path.{_≡_};
 ghost use lib.ListN.{length};
-ghost use Rattle.blocks.specs.Blocks.{HasBlock, checkOf, isSealed, seal};
+ghost use Rattle.octets.specs.Octets.{run, setWord};
+ghost use Rattle.blocks.specs.Blocks.{HasBlock, blockAt, blockWith, checkAt, checkOf, isSealed, seal};
 use terms::BlockNo;
+
+// Where block n begins.
+pub fn place_of(n: BlockNo) -> usize
+    ensures { λ at. ⌜ at ≡ blockAt (n .0) ⌝ }
+{
+    (n.0 as usize) * 512
+}
+
+// The block that a place lies in.
+pub fn block_with(at: u32) -> BlockNo
+    ensures { λ n. ⌜ n .0 ≡ blockWith at ⌝ }
+{
+    BlockNo(at / 512)
+}
+
+// The bytes of block n.
+pub fn block(base: &[u8], n: BlockNo) -> &[u8]
+    requires { ⌜ HasBlock (now base) (n .0) ⌝ }
+    ensures { λ p. ⌜ now p ≡ run (now (base .entry)) (blockAt (n .0)) 512 ⌝ }
+{
+    let at = place_of(n);
+    let end = at + 512;
+    &base[at..end]
+}
 
 // The check of the block n, of which `block` has the bytes.
 pub fn check(block: &[u8], n: BlockNo) -> u32
@@ -17,10 +43,18 @@ pub fn sealed(base: &[u8], n: BlockNo) -> bool
     requires { ⌜ HasBlock (now base) (n .0) ⌝ }
     ensures { λ r. ⌜ r ≡ isSealed (now (base .entry)) (n .0) ⌝ }
 {
-    let a = (n.0 as usize) * 512;
-    let e = a + 512;
-    let block = &base[a..e];
-    octets::word(block, 508) == check(block, n)
+    let part = block(base, n);
+    octets::word(part, 508) == check(part, n)
+}
+
+// Stores v as block n's check.
+pub fn put_check(base: &mut [u8], n: BlockNo, v: u32)
+    requires { ⌜ HasBlock (now base) (n .0) ⌝ }
+    ensures { λ _. ⌜ now (base .exit) ≡ setWord (now (base .entry)) (checkAt (n .0)) v ⌝ }
+{
+    let at = place_of(n);
+    let end = at + 512;
+    octets::put_word(&mut base[at..end], 508, v);
 }
 
 // Sets block n's check anew.
@@ -28,8 +62,6 @@ pub fn seal(base: &mut [u8], n: BlockNo)
     requires { ⌜ HasBlock (now base) (n .0) ⌝ }
     ensures { λ _. ⌜ now (base .exit) ≡ seal (now (base .entry)) (n .0) ⌝ }
 {
-    let a = (n.0 as usize) * 512;
-    let e = a + 512;
-    let v = check(&base[a..e], n);
-    octets::put_word(&mut base[a..e], 508, v);
+    let v = check(block(base, n), n);
+    put_check(base, n, v);
 }

@@ -13,20 +13,16 @@ use Rattle.terms.specs.Terms.{endRef}
 use Rattle.terms.specs.declared.Status.{Status}
 use Rattle.terms.specs.declared.Status.the-variants.{Fntf, Kind, Path, Area, Klen, Bctl, Keys, Ivrp, Mrnf, Dupm, Damg}
 use Rattle.terms.specs.declared.Operation.the-variants.{Formt, Sinon, AddM, DelM, Readm, Writm, Rqloc, Rdnxt, Readv, Readr, Readd, Writv, Addvc, Addvb, Addva, Delvd}
-use Rattle.terms.specs.Status.{statusNumber}
+use Rattle.terms.specs.Status.{statusNumber, firstOf}
 use Rattle.schema.specs.Decode.{setCount}
 use Rattle.records.specs.Areas.{areaLength}
 use Rattle.masters.specs.Find.{isAt, isMissing, isDamaged}
-use Rattle.chains.specs.Chains.{isPointOf}
+use Rattle.points.specs.Chains.{isPointOf}
 use Rattle.calls.specs.Call.{Call, Outcome, variableCalls, adds}
 use Rattle.calls.specs.Scene.{Scene}
 use Rattle.calls.specs.Ladder.{Test, refusal, on, but, wrongKind, keyLength, blankAreaKey, otherAreaKey, isNumber, isLink, finders, otherStoredKey, generalTests, otherMasterTests, finalTests, ladder}
 use Rattle.calls.specs.Outcome.{refused, done}
 use Rattle.calls.specs.OutcomeLaws.{Refusing}
-
--- the first of two statuses that refuses
-abbrev pub firstOf : Status → Status → Status
-firstOf s more = cond (eqb (statusNumber s) 0) more s
 
 -- what a status makes of a call
 unfoldable pub answered : Scene → Call → Status → Outcome

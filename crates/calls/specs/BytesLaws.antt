@@ -16,7 +16,7 @@ use Rattle.terms.specs.declared.Operation.the-variants.{Formt, Sinon, AddM, Del
 use Rattle.schema.specs.declared.Path.{Path}
 use Rattle.schema.specs.declared.Entry.{Entry}
 use Rattle.schema.specs.declared.Schema.{Schema}
-use Rattle.schema.specs.Decode.{pathOf, pathsOf}
+use Rattle.schema.specs.Decode.{pathOf, pathsOf, mastersOn}
 use Rattle.schema.specs.Place.{recordOf, placeOf}
 use Rattle.records.specs.declared.Link.{Link}
 use Rattle.records.specs.Records.{rootNext, rootPrior, isLive}
@@ -25,9 +25,9 @@ use Rattle.plans.specs.Plan.{Store, storeWord, formatted}
 use Rattle.plans.specs.PlanLaws.{AllBytes, bytes-committed, bytes-formatted}
 use Rattle.masters.specs.Find.{heldByOwn, tailFrom, lowestFree}
 use Rattle.masters.specs.Root.{rootPriorSide, rootNextSide, addMasterStores, synonymMoves, delMasterStores}
-use Rattle.chains.specs.Chains.{priorSide, nextSide}
-use Rattle.chains.specs.declared.Spot.{Spot}
-use Rattle.chains.specs.Points.{mastersOn, addMaster, addLink, addStores, ownMaster, ownLink, delStores}
+use Rattle.points.specs.Chains.{priorSide, nextSide}
+use Rattle.points.specs.declared.Spot.{Spot}
+use Rattle.points.specs.Points.{addMaster, addLink, addStores, ownMaster, ownLink, delStores}
 use Rattle.calls.specs.Call.{Call, oneOf}
 use Rattle.calls.specs.Scene.{Scene, sceneOf}
 use Rattle.calls.specs.Ladder.{ladder, refusal}

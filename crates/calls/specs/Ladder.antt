@@ -21,12 +21,13 @@ use Rattle.records.specs.Areas.{isMaster, areaLength, areaMasterKey, areaKeyOn}
 use Rattle.plans.specs.Plan.{blocksSealed}
 use Rattle.masters.specs.Find.{isAt, isMissing, isDamaged, isFull}
 use Rattle.masters.specs.Root.{addMasterFull, addMasterDamaged, delMasterDamaged}
-use Rattle.chains.specs.Chains.{isPointOf, readDamaged, hasPoints}
-use Rattle.chains.specs.Points.{findOn, addDamaged, delDamaged}
+use Rattle.points.specs.Chains.{isPointOf, readDamaged, hasPoints}
+use Rattle.points.specs.Points.{findOn, addDamaged, delDamaged}
 use Rattle.sound.specs.Sound.{sound}
 use Rattle.calls.specs.Call.{Call, oneOf, masterCalls, variableCalls, adds}
 use Rattle.calls.specs.Scene.{Scene}
-use Rattle.calls.specs.Reply.{linkOf, masterIn, homeOfKey, forward, backward, spotOf, storesOf}
+use Rattle.calls.specs.Reply.{masterIn, homeOfKey, forward, backward, spotOf, storesOf}
+use Rattle.schema.specs.Naming.{linkOf}
 
 -- a test: the status it refuses with, and whether it does
 pub record Test : Type 0 where

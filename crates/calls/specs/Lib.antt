@@ -4,7 +4,9 @@ pub mod Scene
 pub mod Ladder
 pub mod Reply
 pub mod Outcome
+pub mod Word
 pub mod Theorems
+pub mod WordLaws
 pub mod LadderLaws
 pub mod OutcomeLaws
 pub mod BytesLaws

@@ -1,29 +1,24 @@
 -- What a call that passes every test answers and stores: document 01, "Chains". `x` is the scene, `c` the call.
-use Prim.Native.Nat.{ℕ, _+_, _-_}
+use Prim.Native.Nat.{ℕ}
 use mathlib.Core.Bool.{cond}
 use mathlib.Core.List.{List, [], _∷_}
 use lib.Dec.{eqb, ltb}
-use lib.ListN.{getD}
-use Rattle.octets.specs.Below.{lowestFrom}
-use Rattle.terms.specs.Terms.{endRef, linkRef}
+use Rattle.terms.specs.Terms.{endRef}
 use Rattle.terms.specs.declared.Operation.{Operation}
 use Rattle.terms.specs.declared.Operation.the-variants.{Formt, Sinon, AddM, DelM, Readm, Writm, Rqloc, Rdnxt, Readv, Readr, Readd, Writv, Addvc, Addvb, Addva, Delvd, Unknown}
 use Rattle.schema.specs.declared.Path.{Path}
 use Rattle.schema.specs.declared.Entry.{Entry}
-use Rattle.records.specs.Records.{isLive, firstOn, lastOn, priorOn, nextOn}
+use Rattle.records.specs.Records.{firstOn, lastOn, priorOn, nextOn}
 use Rattle.records.specs.Areas.{areaOf, areaBody}
 use Rattle.plans.specs.Plan.{Store, storeRun, committed, formatted}
-use Rattle.masters.specs.Find.{homeIn, recordFound, lowestFree}
+use Rattle.masters.specs.Find.{homeIn, recordFound, lowestFree, nextLive}
 use Rattle.masters.specs.Root.{addMasterStores, delMasterStores}
-use Rattle.chains.specs.declared.Spot.{Spot}
-use Rattle.chains.specs.declared.Spot.the-variants.{Last, After, Before}
-use Rattle.chains.specs.Points.{addStores, delStores}
+use Rattle.points.specs.declared.Spot.{Spot}
+use Rattle.points.specs.declared.Spot.the-variants.{Last, After, Before}
+use Rattle.points.specs.Points.{addStores, delStores}
 use Rattle.calls.specs.Call.{Call, oneOf}
 use Rattle.calls.specs.Scene.{Scene}
-
--- "LKxx is its four characters": that of the named path
-abbrev pub linkOf : Path → ℕ
-linkOf p = linkRef (getD (p .letters) 0 0) (getD (p .letters) 1 0)
+use Rattle.schema.specs.Naming.{linkOf}
 
 -- the record of the named master, and the home of the control key
 abbrev pub masterIn : Scene → ℕ
@@ -52,7 +47,7 @@ abbrev pub orNone : Entry → ℕ → ℕ
 orNone e r = cond (ltb (e .records) r) 0 r
 
 abbrev pub sweep : Scene → Call → ℕ
-sweep x c = orNone (x .entry) (lowestFrom (isLive (c .base) (x .entry)) (x .entry .records - c .reference) (c .reference + 1))
+sweep x c = orNone (x .entry) (nextLive (c .base) (x .entry) (c .reference))
 
 abbrev pub givenBy : Operation → Scene → Call → ℕ
 givenBy Readm x c = masterIn x

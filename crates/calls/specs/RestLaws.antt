@@ -8,7 +8,7 @@ use Rattle.terms.specs.declared.Status.the-variants.{Done, Keys, Imdl, Full, Da
 use Rattle.terms.specs.declared.Operation.the-variants.{Formt, Sinon, AddM, DelM, Readm, Writm, Rqloc, Rdnxt, Readv, Readr, Readd, Writv, Delvd}
 use Rattle.plans.specs.Plan.{blocksSealed}
 use Rattle.masters.specs.Root.{addMasterFull, addMasterDamaged, delMasterDamaged}
-use Rattle.chains.specs.Chains.{readDamaged, hasPoints}
+use Rattle.points.specs.Chains.{readDamaged, hasPoints}
 use Rattle.sound.specs.Sound.{sound}
 use Rattle.calls.specs.Call.{Call, oneOf, adds}
 use Rattle.calls.specs.Scene.{Scene}

@@ -2,20 +2,16 @@
 -- name leads nowhere the scene holds what stands past a list's end, and a test of the ladder refuses the call.
 use Prim.Native.Nat.{ℕ}
 use mathlib.Core.Bool.{cond}
-use mathlib.Core.List.{List, _++_}
-use lib.Dec.{eqb}
-use Rattle.octets.specs.Octets.{wordAt, wordBytes, sameBytes}
-use Rattle.octets.specs.Below.{lowest}
-use Rattle.octets.specs.Text.{text}
 use Rattle.terms.specs.declared.Operation.{Operation}
 use Rattle.terms.specs.Operation.{operationOf}
 use Rattle.schema.specs.declared.Path.{Path}
 use Rattle.schema.specs.declared.Entry.{Entry}
 use Rattle.schema.specs.declared.Schema.{Schema}
-use Rattle.schema.specs.Decode.{entryOf, pathOf, setCount, schemaOf}
+use Rattle.schema.specs.Decode.{entryOf, pathOf, schemaOf}
 use Rattle.masters.specs.declared.Found.{Found}
 use Rattle.masters.specs.Find.{find}
 use Rattle.calls.specs.Call.{Call, oneOf, variableCalls}
+use Rattle.schema.specs.Naming.{setNamed, pathNamed}
 
 pub record Scene : Type 0 where
   pub schema : Schema
@@ -29,17 +25,6 @@ pub record Scene : Type 0 where
   -- the set in which the control key is a master's: the named path's masters in a call on a variable set, else the named set itself
   pub masters : Entry
   pub found : Found
-
--- the set of a name
-unfoldable pub setNamed : Schema → List ℕ → ℕ
-setNamed t name = lowest (λ i. eqb (entryOf t i .name) (wordAt name 0)) (setCount t)
-
--- "The path is named mmmmLKxx, mmmm the master."
-abbrev pub pathName : Schema → Path → List ℕ
-pathName t p = wordBytes (entryOf t (p .master .0) .name) ++ (text "LK" ++ p .letters)
-
-unfoldable pub pathNamed : Schema → Entry → List ℕ → ℕ
-pathNamed t e name = lowest (λ j. sameBytes (pathName t (pathOf e j)) name) (e .count)
 
 -- the scene once set and path are known
 abbrev pub sceneOn : Schema → Operation → ℕ → Entry → ℕ → Path → Entry → Call → Scene

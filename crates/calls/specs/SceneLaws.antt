@@ -5,7 +5,8 @@ use Rattle.schema.specs.declared.Schema.{Schema}
 use Rattle.schema.specs.Decode.{entryOf, pathOf}
 use Rattle.masters.specs.Find.{find}
 use Rattle.calls.specs.Call.{Call}
-use Rattle.calls.specs.Scene.{setNamed, pathNamed, sceneUnder}
+use Rattle.calls.specs.Scene.{sceneUnder}
+use Rattle.schema.specs.Naming.{setNamed, pathNamed}
 
 module _ (t : Schema) (c : Call) where
   pub schema-here : sceneUnder t c .schema ≡ t

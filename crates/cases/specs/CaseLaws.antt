@@ -24,9 +24,10 @@ use Rattle.records.specs.Areas.{newMaster}
 use Rattle.plans.specs.Plan.{blocksSealed, storeAll, sealAll, committed, sealBelow}
 use Rattle.masters.specs.Find.{seek, tailFrom}
 use Rattle.masters.specs.Root.{addMasterFull, addMasterDamaged, addMasterStores, delMasterDamaged, delMasterStores}
-use Rattle.calls.specs.Scene.{setNamed, pathNamed, sceneUnder}
+use Rattle.calls.specs.Scene.{sceneUnder}
+use Rattle.schema.specs.Naming.{setNamed, pathNamed}
 use Rattle.calls.specs.Reply.{given, referenceAfter, areaAfter, storesOf, baseAfter}
-use Rattle.chains.specs.Chains.{hasPoints}
+use Rattle.points.specs.Chains.{hasPoints}
 use Rattle.calls.specs.Ladder.{refusal, wrongKind, blankAreaKey, otherAreaKey, ladder}
 use Rattle.calls.specs.Outcome.{done, outcomeIn}
 use Rattle.cases.specs.Small.{twoSets}

@@ -16,8 +16,8 @@ use Rattle.calls.specs.Outcome.{outcome}
 use Rattle.cases.specs.Small.{smallSchema, bottleCall}
 
 -- one call on a bottle
-pub data Step : Type 0 where
-  add remove : List ℕ → Step
+pub data CaseStep : Type 0 where
+  add remove : List ℕ → CaseStep
 
 pub data Question : Type 0 where
   -- L of the small store's two sets, and T
@@ -28,7 +28,7 @@ pub data Question : Type 0 where
   points : ℕ → Question
   -- after these calls on the small store, just formatted: the status of each call; then the records of B001, B006 and B005 (0: there is
   -- none); then the lowest-numbered free record
-  after : List Step → Question
+  after : List CaseStep → Question
 
 pub record Case : Type 0 where
   pub question : Question
@@ -36,28 +36,28 @@ pub record Case : Type 0 where
 
 -- ---- asking
 
-abbrev pub callOf : Step → List ℕ → Call
-callOf (add key) base = bottleCall (text "ADD-M") key (key ++ text "NECK") base
-callOf (remove key) base = bottleCall (text "DEL-M") key [] base
+abbrev pub callFor : CaseStep → List ℕ → Call
+callFor (add key) base = bottleCall (text "ADD-M") key (key ++ text "NECK") base
+callFor (remove key) base = bottleCall (text "DEL-M") key [] base
 
 -- where the bottle of a key stands
-abbrev pub placeIn : List ℕ → List ℕ → ℕ
-placeIn base key = recordFound (find base (entryOf (schemaOf (smallSchema 6)) 0) key)
+abbrev pub recordOfKey : List ℕ → List ℕ → ℕ
+recordOfKey base key = recordFound (find base (entryOf (schemaOf (smallSchema 6)) 0) key)
 
 unfoldable pub places : List ℕ → List ℕ
 places base =
-    placeIn base (text "B001")
-    ∷ placeIn base (text "B006")
-    ∷ placeIn base (text "B005")
+    recordOfKey base (text "B001")
+    ∷ recordOfKey base (text "B006")
+    ∷ recordOfKey base (text "B005")
     ∷ lowestFree base (entryOf (schemaOf (smallSchema 6)) 0)
     ∷ []
 
-abbrev pub told : Outcome → (List ℕ → List ℕ) → List ℕ
-told o more = statusNumber (o .status) ∷ more (o .base)
+abbrev pub answerOf : Outcome → (List ℕ → List ℕ) → List ℕ
+answerOf o more = statusNumber (o .status) ∷ more (o .base)
 
-unfoldable pub play : List Step → List ℕ → List ℕ
+unfoldable pub play : List CaseStep → List ℕ → List ℕ
 play [] base = places base
-play (s ∷ steps) base = told (outcome (callOf s base)) (play steps)
+play (s ∷ steps) base = answerOf (outcome (callFor s base)) (play steps)
 
 unfoldable pub ask : Question → List ℕ
 ask sizes = lengthOf (smallSchema 6) 0 ∷ lengthOf (smallSchema 6) 1 ∷ totalBlocks (smallSchema 6) ∷ []
@@ -67,7 +67,7 @@ ask (after steps) = play steps (formatted 2)
 
 -- ---- the table
 
-abbrev pub five : List Step
+abbrev pub five : List CaseStep
 five = add (text "B001") ∷ add (text "B006") ∷ add (text "B005") ∷ add (text "B002") ∷ add (text "B003") ∷ []
 
 unfoldable pub table : List Case

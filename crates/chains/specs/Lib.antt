@@ -1,5 +1,2 @@
-pub mod Chains
-pub mod Points
-pub mod SideLaws
 pub mod Members
 pub mod Segments

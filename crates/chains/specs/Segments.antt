@@ -44,19 +44,19 @@ Run f p (x ∷ xs) = (f p ≡ x) × Run f x xs
 
 module _ (f : ℕ → ℕ) where
   -- a run is determined by where it begins
-  pub run-same : (p : ℕ) (xs ys : List ℕ) → Run f p xs → Run f p ys → NoZero xs → NoZero ys → xs ≡ ys
-  run-same p [] [] s t h k = refl
-  run-same p [] (y ∷ ys) s t h k = absurd (omega arith)
-  run-same p (x ∷ xs) [] s t h k = absurd (omega arith)
-  run-same p (x ∷ xs) (y ∷ ys) s t h k =
+  pub run-one : (p : ℕ) (xs ys : List ℕ) → Run f p xs → Run f p ys → NoZero xs → NoZero ys → xs ≡ ys
+  run-one p [] [] s t h k = refl
+  run-one p [] (y ∷ ys) s t h k = absurd (omega arith)
+  run-one p (x ∷ xs) [] s t h k = absurd (omega arith)
+  run-one p (x ∷ xs) (y ∷ ys) s t h k =
       let e : x ≡ y = omega arith in
-      rw (← e) (ap (λ zs. x ∷ zs) (run-same x xs ys (s .1) (rw e (t .1)) (h .1) (k .1)))
+      rw (← e) (ap (λ zs. x ∷ zs) (run-one x xs ys (s .1) (rw e (t .1)) (h .1) (k .1)))
 
   -- so x does not come again in what follows x: the rest behind it would be as long as the whole
   run-fresh : (x : ℕ) (xs : List ℕ) (p : ℕ) (ys : List ℕ) → Run f x xs → NoZero xs → Run f p ys → NoZero ys → length ys ≤ length xs → Fresh x ys
   run-fresh x xs p [] s h t k l = tt
   run-fresh x xs p (y ∷ ys) s h t k l = (
-    λ e. let same : length xs ≡ length ys = ap length (run-same x xs ys s (rw e (t .1)) h (k .1)) in omega arith,
+    λ e. let same : length xs ≡ length ys = ap length (run-one x xs ys s (rw e (t .1)) h (k .1)) in omega arith,
     run-fresh x xs y ys s h (t .1) (k .1) (omega arith),
   )
 
@@ -70,11 +70,11 @@ run-agree f g p [] h s = h .0 ∙ s
 run-agree f g p (x ∷ xs) h s = (h .0 ∙ s .0, run-agree f g x xs (h .1) (s .1))
 
 -- each of xs points back to the one before it, the first of them to p
-abbrev pub Answers : (ℕ → ℕ) → ℕ → List ℕ → Type 0
-Answers prior p [] = Unit {0}
-Answers prior p (x ∷ xs) = (prior x ≡ p) × Answers prior x xs
+abbrev pub LooksBack : (ℕ → ℕ) → ℕ → List ℕ → Type 0
+LooksBack prior p [] = Unit {0}
+LooksBack prior p (x ∷ xs) = (prior x ≡ p) × LooksBack prior x xs
 
-pub answers-agree : (f g : ℕ → ℕ) (p : ℕ) (xs : List ℕ) → All (λ a. g a ≡ f a) xs → Answers f p xs → Answers g p xs
+pub answers-agree : (f g : ℕ → ℕ) (p : ℕ) (xs : List ℕ) → All (λ a. g a ≡ f a) xs → LooksBack f p xs → LooksBack g p xs
 answers-agree f g p [] h s = tt
 answers-agree f g p (x ∷ xs) h s = (h .0 ∙ s .0, answers-agree f g x xs (h .1) (s .1))
 
@@ -83,7 +83,7 @@ answers-agree f g p (x ∷ xs) h s = (h .0 ∙ s .0, answers-agree f g x xs (h .
 module _ (next prior : ℕ → ℕ) (P : ℕ → Type 0) (n : ℕ) (number : (x : ℕ) → P x → (1 ≤ x) × (x ≤ n))
     (step : (x : ℕ) → P x → (next x ≡ 0) ⊎ (P (next x) × (prior (next x) ≡ x))) where
   -- from x, behind which the records ys are left, the nearest first
-  walk : (fuel x : ℕ) (ys : List ℕ) → P x → All P ys → Run prior x ys → n ≤ length ys + fuel → (xs : List ℕ) × Run next x xs × Answers prior x xs × All P xs
+  walk : (fuel x : ℕ) (ys : List ℕ) → P x → All P ys → Run prior x ys → n ≤ length ys + fuel → (xs : List ℕ) × Run next x xs × LooksBack prior x xs × All P xs
   walk zero x ys h k t l =
       absurd (omega (arith, pigeonhole n (x ∷ ys) (run-nodup prior x ys t (all-map P (λ a. 1 ≤ a) (λ a p. number a p .0) ys k)) (number x h, all-map P _ number ys k)))
   walk (suc fuel) x ys h k t l =
@@ -91,19 +91,19 @@ module _ (next prior : ℕ → ℕ) (P : ℕ → Type 0) (n : ℕ) (number : (x 
       (λ s. let w = walk fuel (next x) (x ∷ ys) (s .0) (h, k) (s .1, t) (omega arith) in (next x ∷ w .0, (refl, w .1), (s .1, w .2), (s .0, w .3)))
       (step x h)
 
-  pub walk-ends : (x : ℕ) → P x → prior x ≡ 0 → (xs : List ℕ) × Run next x xs × Answers prior x xs × All P xs
-  walk-ends x h e = walk n x [] h tt e (omega arith)
+  pub walk-runs-out : (x : ℕ) → P x → prior x ≡ 0 → (xs : List ℕ) × Run next x xs × LooksBack prior x xs × All P xs
+  walk-runs-out x h e = walk n x [] h tt e (omega arith)
 
 -- ---- both ways
 
 -- b stands right after a
-abbrev pub Link : (ℕ → ℕ) → (ℕ → ℕ) → ℕ → ℕ → Type 0
-Link nx pv a b = (nx a ≡ b) × (pv b ≡ a)
+abbrev pub Joins : (ℕ → ℕ) → (ℕ → ℕ) → ℕ → ℕ → Type 0
+Joins nx pv a b = (nx a ≡ b) × (pv b ≡ a)
 
 -- from node p over xs to node q; a whole chain is from 0 to 0
 abbrev pub Seg : (ℕ → ℕ) → (ℕ → ℕ) → ℕ → List ℕ → ℕ → Type 0
-Seg nx pv p [] q = Link nx pv p q
-Seg nx pv p (x ∷ xs) q = Link nx pv p x × Seg nx pv x xs q
+Seg nx pv p [] q = Joins nx pv p q
+Seg nx pv p (x ∷ xs) q = Joins nx pv p x × Seg nx pv x xs q
 
 module _ (nx pv : ℕ → ℕ) where
   -- to the head a segment is a run that is answered, with its last at the head
@@ -111,11 +111,11 @@ module _ (nx pv : ℕ → ℕ) where
   seg-run p [] s = s .0
   seg-run p (x ∷ xs) s = (s .0 .0, seg-run x xs (s .1))
 
-  pub seg-answers : (p : ℕ) (xs : List ℕ) (q : ℕ) → Seg nx pv p xs q → Answers pv p xs
+  pub seg-answers : (p : ℕ) (xs : List ℕ) (q : ℕ) → Seg nx pv p xs q → LooksBack pv p xs
   seg-answers p [] q s = tt
   seg-answers p (x ∷ xs) q s = (s .0 .1, seg-answers x xs q (s .1))
 
-  pub run-seg : (p : ℕ) (xs : List ℕ) → Run nx p xs → Answers pv p xs → pv 0 ≡ lastOr p xs → Seg nx pv p xs 0
+  pub run-seg : (p : ℕ) (xs : List ℕ) → Run nx p xs → LooksBack pv p xs → pv 0 ≡ lastOr p xs → Seg nx pv p xs 0
   run-seg p [] r a e = (r, e)
   run-seg p (x ∷ xs) r a e = ((r .0, a .0), run-seg x xs (r .1) (a .1) e)
 

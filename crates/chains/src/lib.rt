@@ -1,9 +1,2 @@
-// Points on their paths: neighbours, ends, and what the adds and DELVD store.
-use terms::RecordNo;
-
-// Where a new record goes: last, or after or before the referenced record.
-pub enum Spot {
-    Last,
-    After(RecordNo),
-    Before(RecordNo),
-}
+// Two-way chains: the theory that ROOT chains and the chains of a path share. It knows neither records nor bytes. The files of specs/ in the
+// order of reading: lists without repetitions (Members), chains of pointers and what changes them (Segments).

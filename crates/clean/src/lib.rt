@@ -2,6 +2,8 @@
 // what one definition of sound/specs/Sound.antt says, and leaves at the first byte that is wrong.
 use schema::Entry;
 use schema::Schema;
+use schema::layout::blocks_held;
+use schema::layout::leftover_of;
 use schema::layout::record_of;
 use terms::BlockNo;
 use terms::RecordNo;
@@ -10,8 +12,8 @@ ghost use Prim.Native.Nat.{_*_, _≤_, _<_};
 ghost use lib.ListN.{length};
 ghost use Rattle.octets.specs.Below.{allBelow};
 ghost use Rattle.blocks.specs.Blocks.{isSealed};
-ghost use Rattle.schema.specs.Place.{InSet, LiesIn};
-ghost use Rattle.sound.specs.Sound.{eachRecord, checksTrue, recordClean, blocksHeld, recordsHeld, leftoverClean, setClean};
+ghost use Rattle.schema.specs.Place.{InSet, LiesIn, blocksHeld};
+ghost use Rattle.sound.specs.Sound.{eachRecord, checksTrue, recordClean, leftoverClean, setClean};
 
 // Are the checks of the first n blocks true?
 fn sealed_below(base: &[u8], n: u32) -> bool
@@ -66,38 +68,20 @@ fn records_clean(base: &[u8], e: Entry) -> bool
     true
 }
 
-// How many records the k-th block of a set holds: the last block may hold fewer than the others.
-fn records_held(e: Entry, k: u32) -> u32
-    requires { ⌜ LiesIn e 2097152 ⌝ }
-    requires { ⌜ k < blocksHeld e ⌝ }
-    ensures { λ h. ⌜ h ≡ recordsHeld e k ⌝ }
-{
-    let per = e.per as u32;
-    let left = e.records - k * per;
-    if left < per {
-        return left;
-    }
-    per
-}
-
 // "Room after records is zero.": up to the block's check.
 fn leftover_clean(base: &[u8], e: Entry, k: u32) -> bool
     requires { ⌜ LiesIn e (length (now base)) ⌝ }
     requires { ⌜ k < blocksHeld e ⌝ }
     ensures { λ c. ⌜ c ≡ leftoverClean (now (base .entry)) e k ⌝ }
 {
-    let block = (e.first.0 + k) * 512;
-    let at = (block + records_held(e, k) * e.size) as usize;
-    let end = (block + 508) as usize;
-    octets::all(&base[at..end], 0)
+    octets::all(leftover_of(base, e, k), 0)
 }
 
 fn leftovers_clean(base: &[u8], e: Entry) -> bool
     requires { ⌜ LiesIn e (length (now base)) ⌝ }
     ensures { λ c. ⌜ c ≡ allBelow (leftoverClean (now (base .entry)) e) (blocksHeld e) ⌝ }
 {
-    let per = e.per as u32;
-    let n = (e.records + (per - 1)) / per;
+    let n = blocks_held(e);
     let mut k: u32 = 0;
     while k < n {
         if !leftover_clean(base, e, k) {

@@ -26,7 +26,7 @@ module _ (b : List ℕ) (e : Entry) (area : List ℕ) (p : Plan) (ok : LiesIn e 
   touched-sealed =
       ap (allSealed b) q
       ∙ every-distinct (isSealed b) (planBlocks e p)
-      ∙ ap (allSealed b) (sym (plan-blocks b e area ok p))
+      ∙ ap (allSealed b) (sym (plan-blocks b e area ok p k))
       ∙ sym (blocksSealed-blocks b (planStores b e area p))
 
   -- x is what the stores leave, and y what setting the checks makes of it
@@ -39,12 +39,12 @@ module _ (b : List ℕ) (e : Entry) (area : List ℕ) (p : Plan) (ok : LiesIn e 
       t
       ∙ ap (sealEach x) q
       ∙ sealEach-distinct x (planBlocks e p) h w
-      ∙ ap (sealEach x) (sym (plan-blocks b e area ok p))
+      ∙ ap (sealEach x) (sym (plan-blocks b e area ok p k))
       ∙ (rw s (sym (sealAll-blocks (storeAll b xs) xs)))
 
 -- the outcome, by the answer
-pub refused : {t u : Bool} (x y : List ℕ) → t ≡ u → t ≡ false → (false ≡ u) × (y ≡ cond u x y)
-refused x y e f = let g = sym f ∙ e in (g, rw (sym g) refl)
+pub commit-refused : {t u : Bool} (x y : List ℕ) → t ≡ u → t ≡ false → (false ≡ u) × (y ≡ cond u x y)
+commit-refused x y e f = let g = sym f ∙ e in (g, rw (sym g) refl)
 
-pub done : {t u : Bool} {x z : List ℕ} (y : List ℕ) → t ≡ u → t ≡ true → z ≡ x → (true ≡ u) × (z ≡ cond u x y)
-done y e f h = let g = sym f ∙ e in (g, rw (sym g) h)
+pub commit-done : {t u : Bool} {x z : List ℕ} (y : List ℕ) → t ≡ u → t ≡ true → z ≡ x → (true ≡ u) × (z ≡ cond u x y)
+commit-done y e f h = let g = sym f ∙ e in (g, rw (sym g) h)

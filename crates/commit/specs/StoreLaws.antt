@@ -7,13 +7,13 @@ use lib.ListN.{length, getD, drop}
 use lib.Seq.{getD-take}
 use borrow.Rule.Slice.PartMut.{putMid}
 use Rattle.octets.specs.Octets.{run, splice, wordBytes, setWord}
-use Rattle.octets.specs.SpliceLaws.{length-splice, run-splice, splice-part, splice-splice}
-use Rattle.areas.specs.AreaLaws.{splice-whole}
+use Rattle.octets.specs.SpliceLaws.{length-splice, run-splice, splice-part, splice-splice, splice-whole}
 use Rattle.schema.specs.declared.Entry.{Entry}
 use Rattle.plans.specs.declared.Word.{Word}
 use Rattle.plans.specs.declared.Plan.{Plan}
 use Rattle.plans.specs.Plan.{Store, storeAll}
-use Rattle.plans.specs.PlanLaws.{AllFit}
+use Rattle.plans.specs.PlanOk.{AllFit, WordsOk}
+use Rattle.plans.specs.FitLaws.{word-inside}
 use Rattle.plans.specs.Stores.{wordsOf, wordStores, headStores, wipedStores, planStores}
 use Rattle.commit.specs.Touched.{noWord}
 use Rattle.commit.specs.TouchedLaws.{count-words, words-step, words-done}
@@ -43,19 +43,21 @@ setWord-inner b a ys j v h k = splice-inner b a ys j (wordBytes v) h k
 
 -- ---- the words of a plan, one after the other
 
-word-fits : (n : ℕ) (ws : List Word) (i : ℕ) → AllFit n (wordStores ws) → i < length ws → getD ws i noWord .at + 4 ≤ n
+at-word : (n : ℕ) (ws : List Word) (i : ℕ) → AllFit n (wordStores ws) → WordsOk ws → i < length ws
+    → (getD ws i noWord .offset + 4 ≤ getD ws i noWord .size) × (getD ws i noWord .at + getD ws i noWord .size ≤ n)
 unfolding wordStores
-word-fits n [] i f h = absurd (omega arith)
-word-fits n (w ∷ ws) zero f h = omega (arith, f .0 .inside, f .0 .whole)
-word-fits n (w ∷ ws) (suc i) f h = word-fits n ws i (f .1) (omega arith)
+at-word n [] i f k h = absurd (omega arith)
+at-word n (w ∷ ws) zero f k h = (k .0 .field, word-inside w (k .0) (f .0))
+at-word n (w ∷ ws) (suc i) f k h = at-word n ws i (f .1) (k .1) (omega arith)
 
 module _ (p : Plan) (whole : length (p .words) ≡ 8) (few : p .count ≤ 8) where
-  pub word-inside : (n i : ℕ) → AllFit n (wordStores (wordsOf p)) → i < p .count → getD (p .words) i noWord .at + 4 ≤ n
-  word-inside n i f h =
-      rw (getD-take (p .count) (p .words) i noWord h) at (word-fits n (wordsOf p) i f (omega (arith, count-words p whole few)))
+  pub word-in-base : (n i : ℕ) → AllFit n (wordStores (wordsOf p)) → WordsOk (wordsOf p) → i < p .count
+      → (getD (p .words) i noWord .offset + 4 ≤ getD (p .words) i noWord .size) × (getD (p .words) i noWord .at + getD (p .words) i noWord .size ≤ n)
+  word-in-base n i f k h =
+      rw (getD-take (p .count) (p .words) i noWord h) at (at-word n (wordsOf p) i f k (omega (arith, count-words p whole few)))
 
   pub store-word-turn : (b : List ℕ) (i : ℕ) → i < p .count
-      → storeAll b (wordStores (drop i (wordsOf p))) ≡ storeAll (setWord b (getD (p .words) i noWord .at) (getD (p .words) i noWord .value)) (wordStores (drop (i + 1) (wordsOf p)))
+      → storeAll b (wordStores (drop i (wordsOf p))) ≡ storeAll (setWord b (getD (p .words) i noWord .at + getD (p .words) i noWord .offset) (getD (p .words) i noWord .value)) (wordStores (drop (i + 1) (wordsOf p)))
   unfolding storeAll wordStores setWord
   store-word-turn b i h = rw (words-step p whole few i h) refl
 

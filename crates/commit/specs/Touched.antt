@@ -1,13 +1,14 @@
 -- The blocks that a plan's stores go into, each once: "a block to be stored into has a false check" is asked of a block once, and "the
 -- checks of the blocks stored into" are set once, however many stores fall into one block.
-use Prim.Native.Nat.{ℕ, _+_, _/_}
+use Prim.Native.Nat.{ℕ, _+_}
 use mathlib.Core.Path.{_≡_}
 use mathlib.Core.Bool.{Bool, true, cond, not, _&&_}
 use mathlib.Core.List.{List, [], _∷_, _++_}
 use lib.Dec.{eqb, leb}
 use lib.ListN.{take}
 use Rattle.octets.specs.Octets.{every}
-use Rattle.blocks.specs.Blocks.{blockAt, isSealed, seal}
+use Rattle.terms.specs.declared.BlockNo.{BlockNo}
+use Rattle.blocks.specs.Blocks.{blockAt, blockWith, isSealed, seal}
 use Rattle.schema.specs.declared.Entry.{Entry}
 use Rattle.schema.specs.Place.{blockOf}
 use Rattle.plans.specs.declared.Word.{Word}
@@ -46,9 +47,17 @@ once (n ∷ ns) = isNew n ns && once ns
 
 -- ---- blocks
 
--- the numbers that a `Blocks` holds
+-- block numbers as numbers, and those that a `Blocks` holds
+unfoldable pub plain : List BlockNo → List ℕ
+plain [] = []
+plain (n ∷ ns) = n .0 ∷ plain ns
+
 abbrev pub numbersOf : Blocks → List ℕ
-numbersOf s = take (s .count) (s .numbers)
+numbersOf s = take (s .count) (plain (s .numbers))
+
+-- what is read past a `Blocks`' numbers
+abbrev pub noBlock : BlockNo
+noBlock = record { 0 = 0 }
 
 -- the block lies within n bytes; every block does
 abbrev pub within : ℕ → ℕ → Bool
@@ -74,11 +83,11 @@ storeBlocks (x ∷ xs) = storeBlock x ∷ storeBlocks xs
 
 -- what is read past a plan's words
 abbrev pub noWord : Word
-noWord = record { at = 0; value = 0 }
+noWord = record { at = 0; size = 0; offset = 0; value = 0 }
 
 unfoldable pub wordBlocks : List Word → List ℕ
 wordBlocks [] = []
-wordBlocks (w ∷ ws) = w .at / 512 ∷ wordBlocks ws
+wordBlocks (w ∷ ws) = blockWith (w .at) ∷ wordBlocks ws
 
 -- r and q are the plan's target and its other record
 abbrev pub headBlocks : Head → Entry → ℕ → ℕ → List ℕ

@@ -1,7 +1,7 @@
 -- The blocks that a plan touches: a list of them goes block by block, a plan's words go word by word, and the blocks of a plan's stores are
 -- those that the plan names, and lie within the data base.
-use Prim.Native.Nat.{ℕ, _+_, _/_, _≤_, _<_}
-use mathlib.Core.Path.{_≡_, refl, _∙_}
+use Prim.Native.Nat.{ℕ, zero, suc, _+_, _≤_, _<_}
+use mathlib.Core.Path.{_≡_, refl, ap, _∙_}
 use mathlib.Core.Bool.{Bool, true, false, cond}
 use mathlib.Core.List.{List, [], _∷_, _++_}
 use native.Mathlib.Omega.{arith}
@@ -13,7 +13,8 @@ use lib.Seq.{length-take-le, getD-take, drop-cons, take-suc-set}
 use Rattle.octets.specs.Octets.{every}
 use Rattle.octets.specs.SpliceLaws.{drop-one}
 use Rattle.octets.specs.RunLaws.{every-append, every-turn, every-fails, every-end, every-at}
-use Rattle.blocks.specs.Blocks.{blockAt, seal}
+use Rattle.terms.specs.declared.BlockNo.{BlockNo}
+use Rattle.blocks.specs.Blocks.{blockAt, blockWith, seal}
 use Rattle.schema.specs.declared.Entry.{Entry}
 use Rattle.schema.specs.Place.{InSet, LiesIn, blockOf}
 use Rattle.schema.specs.PlaceLaws.{block-inside, block-of-place, block-of-record}
@@ -23,34 +24,51 @@ use Rattle.plans.specs.declared.Head.{Head}
 use Rattle.plans.specs.declared.Head.the-variants.{Nothing, Body, Master, Variable, Stranger, Synonym}
 use Rattle.plans.specs.declared.Plan.{Plan}
 use Rattle.plans.specs.Plan.{Store, wipeRecord, blocksSealed, sealAll}
-use Rattle.plans.specs.PlanLaws.{AllFit}
-use Rattle.plans.specs.PlanOk.{HeadOk, PlanOk}
+use Rattle.plans.specs.PlanOk.{HeadOk, PlanOk, AllFit, WordsOk}
+use Rattle.plans.specs.FitLaws.{word-block}
 use Rattle.plans.specs.Stores.{wordsOf, wordStores, headStores, wipedStores, planStores}
 use Rattle.commit.specs.declared.Blocks.{Blocks}
-use Rattle.commit.specs.Touched.{noWord, isNew, addNew, addAll, numbersOf, within, AllWithin, allSealed, sealEach, storeBlocks, wordBlocks, headBlocks, wipedBlocks, planBlocks}
+use Rattle.commit.specs.Touched.{noWord, noBlock, plain, isNew, addNew, addAll, numbersOf, within, AllWithin, allSealed, sealEach, storeBlocks, wordBlocks, headBlocks, wipedBlocks, planBlocks}
 
 -- ---- the numbers that a `Blocks` holds, one after the other
 
+length-plain : (ns : List BlockNo) → length (plain ns) ≡ length ns
+unfolding plain
+length-plain [] = refl
+length-plain (n ∷ ns) = ap suc (length-plain ns)
+
+plain-at : (ns : List BlockNo) (i : ℕ) → getD (plain ns) i 0 ≡ getD ns i noBlock .0
+unfolding plain
+plain-at [] i = refl
+plain-at (n ∷ ns) zero = refl
+plain-at (n ∷ ns) (suc i) = plain-at ns i
+
+plain-set : (ns : List BlockNo) (i : ℕ) (n : BlockNo) → plain (set ns i n) ≡ set (plain ns) i (n .0)
+unfolding plain
+plain-set [] i n = refl
+plain-set (m ∷ ns) zero n = refl
+plain-set (m ∷ ns) (suc i) n = ap (λ (ks : List ℕ). m .0 ∷ ks) (plain-set ns i n)
+
 module _ (s : Blocks) (whole : length (s .numbers) ≡ 12) (few : s .count ≤ 12) where
   count-blocks : length (numbersOf s) ≡ s .count
-  count-blocks = length-take-le (s .count) (s .numbers) (omega arith)
+  count-blocks = length-take-le (s .count) (plain (s .numbers)) (omega (arith, length-plain (s .numbers)))
 
-  block-is : (i : ℕ) → i < s .count → getD (numbersOf s) i 0 ≡ getD (s .numbers) i 0
-  block-is i h = getD-take (s .count) (s .numbers) i 0 h
+  block-is : (i : ℕ) → i < s .count → getD (numbersOf s) i 0 ≡ getD (s .numbers) i noBlock .0
+  block-is i h = getD-take (s .count) (plain (s .numbers)) i 0 h ∙ plain-at (s .numbers) i
 
-  pub blocks-turn : (f : ℕ → Bool) (i : ℕ) → i < s .count → f (getD (s .numbers) i 0) ≡ true → every f (drop i (numbersOf s)) ≡ every f (drop (i + 1) (numbersOf s))
+  pub blocks-turn : (f : ℕ → Bool) (i : ℕ) → i < s .count → f (getD (s .numbers) i noBlock .0) ≡ true → every f (drop i (numbersOf s)) ≡ every f (drop (i + 1) (numbersOf s))
   blocks-turn f i h e = every-turn f (numbersOf s) i (omega (arith, count-blocks)) (rw (block-is i h) e)
 
-  pub blocks-fail : (f : ℕ → Bool) (i : ℕ) → i < s .count → f (getD (s .numbers) i 0) ≡ false → every f (drop i (numbersOf s)) ≡ false
+  pub blocks-fail : (f : ℕ → Bool) (i : ℕ) → i < s .count → f (getD (s .numbers) i noBlock .0) ≡ false → every f (drop i (numbersOf s)) ≡ false
   blocks-fail f i h e = every-fails f (numbersOf s) i (omega (arith, count-blocks)) (rw (block-is i h) e)
 
   pub blocks-end : (f : ℕ → Bool) (i : ℕ) → s .count ≤ i → every f (drop i (numbersOf s)) ≡ true
   blocks-end f i h = every-end f (numbersOf s) i (omega (arith, count-blocks))
 
-  pub block-within : (n i : ℕ) → AllWithin n (numbersOf s) → i < s .count → blockAt (getD (s .numbers) i 0) + 512 ≤ n
+  pub block-within : (n i : ℕ) → AllWithin n (numbersOf s) → i < s .count → blockAt (getD (s .numbers) i noBlock .0) + 512 ≤ n
   block-within n i w h = rw (block-is i h) at (leb-true (blockAt (getD (numbersOf s) i 0) + 512) n (every-at (within n) (numbersOf s) i w (omega (arith, count-blocks))))
 
-  pub seal-turn : (b : List ℕ) (i : ℕ) → i < s .count → sealEach b (drop i (numbersOf s)) ≡ sealEach (seal b (getD (s .numbers) i 0)) (drop (i + 1) (numbersOf s))
+  pub seal-turn : (b : List ℕ) (i : ℕ) → i < s .count → sealEach b (drop i (numbersOf s)) ≡ sealEach (seal b (getD (s .numbers) i noBlock .0)) (drop (i + 1) (numbersOf s))
   unfolding sealEach
   seal-turn b i h = rw (drop-one (numbersOf s) i (omega (arith, count-blocks)), block-is i h) refl
 
@@ -59,9 +77,9 @@ module _ (s : Blocks) (whole : length (s .numbers) ≡ 12) (few : s .count ≤ 1
   seal-end b i h = rw (drop-of-length-le (numbersOf s) {i = i} (omega (arith, count-blocks))) refl
 
 -- one more number, or one that is there
-pub block-added : (s : Blocks) (n : ℕ) → length (s .numbers) ≡ 12 → s .count < 12 → isNew n (numbersOf s) ≡ true
-    → take (s .count + 1) (set (s .numbers) (s .count) n) ≡ addNew (numbersOf s) n
-block-added s n w l h = rw (h, add-one (s .count)) (take-suc-set (s .numbers) (s .count) n (omega arith))
+pub block-added : (s : Blocks) (n : BlockNo) → length (s .numbers) ≡ 12 → s .count < 12 → isNew (n .0) (numbersOf s) ≡ true
+    → take (s .count + 1) (plain (set (s .numbers) (s .count) n)) ≡ addNew (numbersOf s) (n .0)
+block-added s n w l h = rw (h, plain-set, add-one (s .count)) (take-suc-set (plain (s .numbers)) (s .count) (n .0) (omega (arith, length-plain (s .numbers))))
 
 pub block-known : (s : Blocks) (n : ℕ) → isNew n (numbersOf s) ≡ false → numbersOf s ≡ addNew (numbersOf s) n
 block-known s n h = rw h refl
@@ -81,7 +99,7 @@ module _ (p : Plan) (whole : length (p .words) ≡ 8) (few : p .count ≤ 8) whe
   words-done i h = drop-of-length-le (wordsOf p) {i = i} (omega (arith, count-words))
 
   pub word-block-turn : (ks : List ℕ) (i : ℕ) → i < p .count
-      → addAll ks (wordBlocks (drop i (wordsOf p))) ≡ addAll (addNew ks (getD (p .words) i noWord .at / 512)) (wordBlocks (drop (i + 1) (wordsOf p)))
+      → addAll ks (wordBlocks (drop i (wordsOf p))) ≡ addAll (addNew ks (blockWith (getD (p .words) i noWord .at))) (wordBlocks (drop (i + 1) (wordsOf p)))
   unfolding addAll wordBlocks
   word-block-turn ks i h = rw (words-step i h) refl
 
@@ -106,10 +124,11 @@ unfolding storeBlocks
 storeBlocks-append [] ys = refl
 storeBlocks-append (x ∷ xs) ys = rw (storeBlocks-append xs ys) refl
 
-word-blocks : (ws : List Word) → storeBlocks (wordStores ws) ≡ wordBlocks ws
+-- a word goes into its record's block
+word-blocks : (ws : List Word) → WordsOk ws → storeBlocks (wordStores ws) ≡ wordBlocks ws
 unfolding storeBlocks wordStores wordBlocks
-word-blocks [] = refl
-word-blocks (w ∷ ws) = rw (word-blocks ws) refl
+word-blocks [] k = refl
+word-blocks (w ∷ ws) k = rw (word-block w (k .0), word-blocks ws (k .1)) refl
 
 module _ (b : List ℕ) (e : Entry) (area : List ℕ) {n : ℕ} (ok : LiesIn e n) where
   head-blocks : (h : Head) (r q : ℕ) (links : List Link) → storeBlocks (headStores h b e area r q links) ≡ headBlocks h e r q
@@ -130,21 +149,21 @@ module _ (b : List ℕ) (e : Entry) (area : List ℕ) {n : ℕ} (ok : LiesIn e n
       go false = rw (block-of-record r ok) refl
 
   -- the blocks of a plan's stores do not depend on what is stored
-  pub plan-blocks : (p : Plan) → storeBlocks (planStores b e area p) ≡ planBlocks e p
+  pub plan-blocks : (p : Plan) → PlanOk n e p → storeBlocks (planStores b e area p) ≡ planBlocks e p
   unfolding planStores planBlocks
-  plan-blocks p =
+  plan-blocks p k =
       let hs = headStores (p .head) b e area (p .target .0) (p .other .0) (p .links) in
       let ws = wordStores (wordsOf p) in
       let h : storeBlocks hs ≡ headBlocks (p .head) e (p .target .0) (p .other .0) = head-blocks (p .head) (p .target .0) (p .other .0) (p .links) in
       storeBlocks-append hs (ws ++ wipedStores e (p .wiped))
-      ∙ (rw (storeBlocks-append ws (wipedStores e (p .wiped)), h, word-blocks (wordsOf p), wiped-blocks (p .wiped)) refl)
+      ∙ (rw (storeBlocks-append ws (wipedStores e (p .wiped)), h, word-blocks (wordsOf p) (k .records), wiped-blocks (p .wiped)) refl)
 
 -- ---- a plan's blocks lie within the data base
 
-words-within : (n : ℕ) (ws : List Word) → AllFit n (wordStores ws) → AllWithin n (wordBlocks ws)
+words-within : (n : ℕ) (ws : List Word) → AllFit n (wordStores ws) → WordsOk ws → AllWithin n (wordBlocks ws)
 unfolding wordStores wordBlocks every
-words-within n [] h = refl
-words-within n (w ∷ ws) h = rw (le-leb _ _ (h .0 .whole)) (words-within n ws (h .1))
+words-within n [] h k = refl
+words-within n (w ∷ ws) h k = rw (le-leb _ _ (rw (word-block w (k .0)) at (h .0 .whole))) (words-within n ws (h .1) (k .1))
 
 module _ (n : ℕ) (e : Entry) (ok : LiesIn e n) where
   inside : (r : ℕ) → InSet e r → within n (blockOf e r) ≡ true
@@ -174,5 +193,5 @@ module _ (n : ℕ) (e : Entry) (ok : LiesIn e n) where
       let hs = headBlocks (p .head) e (p .target .0) (p .other .0) in
       let ws = wordBlocks (wordsOf p) in
       let h : every f hs ≡ true = head-within (p .head) (p .target .0) (p .other .0) (k .head) in
-      let w : every f ws ≡ true = words-within n (wordsOf p) (k .words) in
+      let w : every f ws ≡ true = words-within n (wordsOf p) (k .words) (k .records) in
       every-append f hs (ws ++ wipedBlocks e (p .wiped)) ∙ (rw (every-append f ws (wipedBlocks e (p .wiped)), h, w) (wiped-within (p .wiped) (k .wiped)))

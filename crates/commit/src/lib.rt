@@ -3,8 +3,10 @@
 use areas::put_body;
 use areas::put_master;
 use areas::put_variable;
+use blocks::block_with;
 use plans::Head;
 use plans::Plan;
+use plans::Word;
 use records::Link;
 use records::fields::move_record;
 use records::fields::put_word_in;
@@ -16,22 +18,21 @@ use terms::RecordNo;
 ghost use mathlib.Core.Path.{_≡_};
 ghost use mathlib.Core.Bool.{cond};
 ghost use mathlib.Core.List.{[]};
-ghost use Prim.Native.Nat.{_+_, _/_, _≤_, _<_};
+ghost use Prim.Native.Nat.{_+_, _≤_, _<_};
 ghost use lib.ListN.{length};
 ghost use Rattle.octets.specs.Octets.{splice, setWord};
 ghost use Rattle.schema.specs.Place.{InSet, LiesIn, placeOf, recordOf};
-ghost use Rattle.areas.specs.AreaLaws.{Fields};
+ghost use Rattle.records.specs.Fields.{Fields};
 ghost use Rattle.records.specs.Areas.{areaLength, newMaster};
 ghost use Rattle.plans.specs.Plan.{blocksSealed, storeAll, committed};
-ghost use Rattle.plans.specs.PlanLaws.{AllFit};
-ghost use Rattle.plans.specs.PlanOk.{HeadOk, AreaOk, PlanOk};
+ghost use Rattle.plans.specs.PlanOk.{HeadOk, AreaOk, PlanOk, AllFit, WordsOk};
 ghost use Rattle.plans.specs.Stores.{wordsOf, wordStores, headStores, wipedStores, planStores};
 ghost use Rattle.commit.specs.Touched.{isNew, addNew, addAll, distinct, numbersOf, AllWithin, allSealed, sealEach, wordBlocks, headBlocks, wipedBlocks, planBlocks};
 
 // Numbers of blocks, each once: the first `count` of the array. A plan has at most eleven stores: two of its head, eight words and a wiped
 // record.
 struct Blocks {
-    numbers: [u32; 12],
+    numbers: [BlockNo; 12],
     count: usize,
 }
 
@@ -40,7 +41,7 @@ impl Blocks {
         ensures { λ s. ⌜ (numbersOf s ≡ []) × (s .count ≡ 0) ⌝ }
     {
         Blocks {
-            numbers: [0; 12],
+            numbers: [BlockNo(0); 12],
             count: 0,
         }
     }
@@ -53,7 +54,8 @@ impl Blocks {
         let count = self.count;
         let mut i: usize = 0;
         while i < count {
-            if self.numbers[i] == n.0 {
+            let k = self.numbers[i];
+            if k.0 == n.0 {
                 return false;
             }
             i += 1;
@@ -69,19 +71,12 @@ impl Blocks {
         if self.is_new(n) {
             let mut s = self;
             let i = s.count;
-            s.numbers[i] = n.0;
+            s.numbers[i] = n;
             s.count = i + 1;
             return s;
         }
         self
     }
-}
-
-// The block of a place in the data base: a plan's words bear their places, not their records.
-fn block_at(at: u32) -> BlockNo
-    ensures { λ n. ⌜ n .0 ≡ at / 512 ⌝ }
-{
-    BlockNo(at / 512)
 }
 
 // The blocks of the records that a head stores into: r and q are the plan's target and its other record.
@@ -111,7 +106,7 @@ fn word_blocks(blocks: Blocks, p: Plan) -> Blocks
     let mut i: usize = 0;
     while i < count {
         let w = p.words[i];
-        s = s.with(block_at(w.at));
+        s = s.with(block_with(w.at));
         i += 1;
     }
     s
@@ -152,7 +147,7 @@ fn all_sealed(base: &[u8], blocks: Blocks) -> bool
     let mut j: usize = 0;
     while j < count {
         let n = blocks.numbers[j];
-        if !blocks::sealed(base, BlockNo(n)) {
+        if !blocks::sealed(base, n) {
             return false;
         }
         j += 1;
@@ -170,7 +165,7 @@ fn seal_all(base: &mut [u8], blocks: Blocks)
     let mut k: usize = 0;
     while k < count {
         let n = blocks.numbers[k];
-        blocks::seal(base, BlockNo(n));
+        blocks::seal(base, n);
         k += 1;
     }
 }
@@ -239,17 +234,28 @@ fn store_head(
     }
 }
 
+// A word is stored into its record's part.
+fn put_in(base: &mut [u8], w: Word)
+    requires { ⌜ (w .offset + 4 ≤ w .size) × (w .at + w .size ≤ length (now base)) ⌝ }
+    ensures { λ _. ⌜ now (base .exit) ≡ setWord (now (base .entry)) (w .at + w .offset) (w .value) ⌝ }
+{
+    let at = w.at as usize;
+    let end = at + (w.size as usize);
+    octets::put_word(&mut base[at..end], w.offset as usize, w.value);
+}
+
 // Then the words, one after the other.
 fn store_words(base: &mut [u8], p: Plan)
     requires { ⌜ p .count ≤ 8 ⌝ }
     requires { ⌜ AllFit (length (now base)) (wordStores (wordsOf p)) ⌝ }
+    requires { ⌜ WordsOk (wordsOf p) ⌝ }
     ensures { λ _. ⌜ now (base .exit) ≡ storeAll (now (base .entry)) (wordStores (wordsOf p)) ⌝ }
 {
     let count = p.count;
     let mut i: usize = 0;
     while i < count {
         let w = p.words[i];
-        octets::put_word(base, w.at as usize, w.value);
+        put_in(base, w);
         i += 1;
     }
 }

@@ -4,7 +4,7 @@ use mathlib.Core.Path.{_≡_}
 use mathlib.Core.Bool.{Bool, cond, not, _&&_}
 use mathlib.Core.List.{List, [], _∷_, _++_}
 use lib.Dec.{eqb, leb}
-use lib.ListN.{length, take}
+use lib.ListN.{length, take, drop}
 use Rattle.octets.specs.Octets.{zeros}
 use Rattle.octets.specs.Text.{text}
 use Rattle.terms.specs.Terms.{endRef}
@@ -13,7 +13,7 @@ use Rattle.terms.specs.Status.{statusNumber, statusCode}
 use Rattle.terms.specs.Operation.{operationOf}
 use Rattle.calls.specs.Call.{Call, Outcome, callOf, oneOf, reads}
 use Rattle.calls.specs.Outcome.{outcome}
-use Rattle.console.specs.Lines.{endOf, fieldOf, isName, nameOf, isPart, partOf}
+use Rattle.console.specs.Lines.{endOf, fieldOf, isName, nameIn, isPart, partOf}
 use Rattle.console.specs.References.{decimal, isReference, referenceOf, written}
 
 -- ---- a line that is a call
@@ -49,7 +49,7 @@ areaFor operation f = cond (isRead operation) ownArea (partOf f)
 -- the call that a line makes
 abbrev pub callIn : List ℕ → List ℕ → List ℕ → Call
 callIn line schema base =
-    callOf (fieldOf line 0) (nameOf 4 (fieldOf line 1)) (referenceOf (fieldOf line 2)) (nameOf 8 (fieldOf line 3)) (partOf (fieldOf line 4))
+    callOf (fieldOf line 0) (nameIn 4 (fieldOf line 1)) (referenceOf (fieldOf line 2)) (nameIn 8 (fieldOf line 3)) (partOf (fieldOf line 4))
     (areaFor (fieldOf line 0) (fieldOf line 5)) schema base
 
 -- "A program formats this store": the call that it makes before line 1, which looks at schema and data base alone
@@ -72,11 +72,11 @@ abbrev pub recordGiven : Status → ℕ → Bool
 recordGiven status reference = eqb (statusNumber status) 0 && not (eqb reference endRef)
 
 -- "the area of a read that gave a record, else "-""
-abbrev pub shown : List ℕ → Outcome → List ℕ
-shown operation o = cond (isRead operation && recordGiven (o .status) (o .reference)) (o .area) (text "-")
+abbrev pub areaShown : List ℕ → Outcome → List ℕ
+areaShown operation o = cond (isRead operation && recordGiven (o .status) (o .reference)) (o .area) (text "-")
 
-abbrev pub answered : ℕ → List ℕ → Outcome → List ℕ
-answered number operation o = printed number (statusCode (o .status)) (written (o .reference)) (shown operation o)
+abbrev pub lineFor : ℕ → List ℕ → Outcome → List ℕ
+lineFor number operation o = printed number (statusCode (o .status)) (written (o .reference)) (areaShown operation o)
 
 -- "prints its number, FORM, -, -, and makes no call"
 abbrev pub unmade : ℕ → List ℕ
@@ -90,19 +90,24 @@ pub record Reply : Type 0 where
   pub base : List ℕ
 
 abbrev pub replyTo : ℕ → List ℕ → Call → Reply
-replyTo number operation c = record { printed = answered number operation (outcome c); base = outcome c .base }
+replyTo number operation c = record { printed = lineFor number operation (outcome c); base = outcome c .base }
 
 unfoldable pub responded : ℕ → List ℕ → List ℕ → List ℕ → Reply
 responded number line schema base =
     cond (wellMade line) (replyTo number (fieldOf line 0) (callIn line schema base)) (record { printed = unmade number; base = base })
 
--- "this is the reply": the first n bytes of a buffer of 64, and the data base
-pub record Replied (n : ℕ) (out base : List ℕ) (reply : Reply) : Type 0 where
+-- behind its first n bytes a buffer stays as it was
+pub record RestStays (n : ℕ) (was out : List ℕ) : Type 0 where
+  pub rest : drop n out ≡ drop n was
+
+-- "this is the reply": the first n bytes of a buffer of 64, which stays as it was behind them, and the data base
+pub record Replied (n : ℕ) (was out base : List ℕ) (reply : Reply) : Type 0 where
   pub fits : n ≤ 64
   pub text : take n out ≡ reply .printed
+  pub rest : RestStays n was out
   pub kept : base ≡ reply .base
 
 -- the first n bytes of a buffer of 129 are what is kept of a line: all of it, or its first 129 bytes
-pub record Kept (n : ℕ) (buffer line : List ℕ) : Type 0 where
+pub record KeptLine (n : ℕ) (buffer line : List ℕ) : Type 0 where
   pub fits : n ≤ 129
   pub bytes : take n buffer ≡ take 129 line

@@ -14,9 +14,10 @@ use Rattle.terms.specs.declared.Status.{Status}
 use Rattle.terms.specs.Status.{statusCode}
 use Rattle.calls.specs.Call.{Call, callOf}
 use Rattle.calls.specs.Outcome.{IsOutcome}
-use Rattle.console.specs.Lines.{fieldOf, isDash, isName, nameOf, isPart, partOf}
+use Rattle.console.specs.Lines.{fieldOf, isDash, isName, nameIn, isPart, partOf}
 use Rattle.console.specs.References.{isDigit, decimalOf, spellsFour, isDecimal, isReference, referenceOf, decimal, written}
-use Rattle.console.specs.Console.{fieldsMade, wellMade, isRead, ownArea, areaFor, callIn, recordGiven, unmade, Replied, replyTo, responded}
+use Rattle.console.specs.PrinterLaws.{stays-behind}
+use Rattle.console.specs.Console.{fieldsMade, wellMade, isRead, ownArea, areaFor, callIn, recordGiven, unmade, RestStays, Replied, replyTo, responded}
 
 -- ---- a reference is a word
 
@@ -80,17 +81,21 @@ module _ (line : List ℕ) (h : fieldsMade line ≡ true) where
 -- ---- the reply to a call
 
 -- a call's outcome, printed in two steps: all but the area, then what is shown of the area
-pub replied : (number n at : ℕ) (op out more shown : List ℕ) {c : Call} {status : Status} {reference : ℕ} {area base : List ℕ}
+pub replied : (number n at : ℕ) (op was out more shown : List ℕ) {c : Call} {status : Status} {reference : ℕ} {area base : List ℕ}
     → IsOutcome c (record { status = status; reference = reference; area = area; base = base })
     → cond (isRead op && recordGiven status reference) area (text "-") ≡ shown
     → take at out ≡ decimal number ++ text " " ++ statusCode status ++ text " " ++ written reference
+    → RestStays at was out
     → n ≤ 64
     → take n more ≡ take at out ++ text " " ++ shown ++ (10 ∷ [])
-    → Replied n more base (replyTo number op c)
-replied number n at op out more shown h e k fits m =
+    → RestStays n out more
+    → at ≤ n
+    → Replied n was more base (replyTo number op c)
+replied number n at op was out more shown h e k rest fits m stays later =
     record {
       fits = fits;
       text = m ∙ rw (k, ← h .status, ← h .reference, ← h .area, e) refl;
+      rest = stays-behind rest later stays;
       kept = h .base;
     }
 
@@ -105,33 +110,33 @@ part-short line k = go (isDash (fieldOf line k))
 -- the parameters, read one by one, are those of the line's call
 module _ (number : ℕ) (line schema base op set path key : List ℕ) (reference : ℕ)
     (eo : op ≡ fieldOf line 0)
-    (es : set ≡ nameOf 4 (fieldOf line 1))
+    (es : set ≡ nameIn 4 (fieldOf line 1))
     (er : reference ≡ referenceOf (fieldOf line 2))
-    (ep : path ≡ nameOf 8 (fieldOf line 3))
+    (ep : path ≡ nameIn 8 (fieldOf line 3))
     (ek : key ≡ partOf (fieldOf line 4)) where
-  asked-as : (area : List ℕ) → area ≡ areaFor (fieldOf line 0) (fieldOf line 5) → {n : ℕ} {out kept : List ℕ}
-      → Replied n out kept (replyTo number op (callOf op set reference path key area schema base))
-      → Replied n out kept (replyTo number (fieldOf line 0) (callIn line schema base))
+  asked-as : (area : List ℕ) → area ≡ areaFor (fieldOf line 0) (fieldOf line 5) → {n : ℕ} {was out kept : List ℕ}
+      → Replied n was out kept (replyTo number op (callOf op set reference path key area schema base))
+      → Replied n was out kept (replyTo number (fieldOf line 0) (callIn line schema base))
   asked-as area ea h = rw (← eo, ← es, ← er, ← ep, ← ek, ← (ea ∙ ap (λ (o : List ℕ). areaFor o (fieldOf line 5)) (sym eo))) h
 
-  pub asked-read : isRead op ≡ true → {n : ℕ} {out kept : List ℕ}
-      → Replied n out kept (replyTo number op (callOf op set reference path key ownArea schema base))
-      → Replied n out kept (replyTo number (fieldOf line 0) (callIn line schema base))
+  pub asked-read : isRead op ≡ true → {n : ℕ} {was out kept : List ℕ}
+      → Replied n was out kept (replyTo number op (callOf op set reference path key ownArea schema base))
+      → Replied n was out kept (replyTo number (fieldOf line 0) (callIn line schema base))
   asked-read i h = asked-as ownArea (rw (← eo, i) refl) h
 
-  pub asked-act : isRead op ≡ false → (area : List ℕ) → area ≡ partOf (fieldOf line 5) → {n : ℕ} {out kept : List ℕ}
-      → Replied n out kept (replyTo number op (callOf op set reference path key area schema base))
-      → Replied n out kept (replyTo number (fieldOf line 0) (callIn line schema base))
+  pub asked-act : isRead op ≡ false → (area : List ℕ) → area ≡ partOf (fieldOf line 5) → {n : ℕ} {was out kept : List ℕ}
+      → Replied n was out kept (replyTo number op (callOf op set reference path key area schema base))
+      → Replied n was out kept (replyTo number (fieldOf line 0) (callIn line schema base))
   asked-act i area ea h = asked-as area (rw (← eo, i) ea) h
 
 -- ---- the reply to a line
 
-module _ (number n : ℕ) (line schema base out : List ℕ) where
-  pub unmade-line : wellMade line ≡ false → n ≤ 64 → take n out ≡ unmade number → Replied n out base (responded number line schema base)
+module _ (number n : ℕ) (line schema base was out : List ℕ) where
+  pub unmade-line : wellMade line ≡ false → n ≤ 64 → take n out ≡ unmade number → RestStays n was out → Replied n was out base (responded number line schema base)
   unfolding responded
-  unmade-line h fits e = rw h (record { fits = fits; text = e; kept = refl })
+  unmade-line h fits e d = rw h (record { fits = fits; text = e; rest = d; kept = refl })
 
-  pub made-line : wellMade line ≡ true → {kept : List ℕ} → Replied n out kept (replyTo number (fieldOf line 0) (callIn line schema base))
-      → Replied n out kept (responded number line schema base)
+  pub made-line : wellMade line ≡ true → {kept : List ℕ} → Replied n was out kept (replyTo number (fieldOf line 0) (callIn line schema base))
+      → Replied n was out kept (responded number line schema base)
   unfolding responded
   made-line h r = rw h r

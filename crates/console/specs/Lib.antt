@@ -2,6 +2,7 @@ pub mod Lines
 pub mod References
 pub mod Console
 pub mod Session
+pub mod SessionLaws
 pub mod LineLaws
 pub mod ReferenceLaws
 pub mod PrinterLaws

@@ -7,11 +7,9 @@ use native.Mathlib.Omega.{arith}
 use native.Mathlib.Numerals.{add-one}
 use lib.Dec.{eqb}
 use lib.ListN.{length}
-use lib.Seq.{take-all}
 use borrow.Author.Tests.{eqb-true}
-use Rattle.octets.specs.Octets.{byteAt, splice}
+use Rattle.octets.specs.Octets.{byteAt}
 use Rattle.octets.specs.BelowLaws.{lowestFrom-ge, lowestFrom-le}
-use Rattle.octets.specs.SpliceLaws.{run-splice, length-splice}
 use Rattle.console.specs.Lines.{endFrom, endOf, startOf, isDash, isName}
 
 -- ---- ends
@@ -59,11 +57,6 @@ start-behind line zero h = absurd (h refl)
 start-behind line (suc k) h = let e : suc k - 1 ≡ k = omega arith in rw e refl
 
 -- ---- names
-
--- a run as long as what it is stored over is all that is left
-pub splice-whole : (xs ys : List ℕ) → length ys ≡ length xs → splice xs 0 ys ≡ ys
-splice-whole xs ys e =
-    sym (take-all (length ys) (splice xs 0 ys) (omega (arith, length-splice xs 0 ys))) ∙ run-splice xs 0 ys (omega arith)
 
 -- a name that is not "-" has its length
 or-left : (a b : Bool) → (a || b) ≡ true → b ≡ false → a ≡ true

@@ -38,8 +38,8 @@ isDash f = sameBytes f (text "-")
 abbrev pub isName : ℕ → List ℕ → Bool
 isName n f = eqb (length f) n || isDash f
 
-abbrev pub nameOf : ℕ → List ℕ → List ℕ
-nameOf n f = cond (isDash f) (replicate n 32) f
+abbrev pub nameIn : ℕ → List ℕ → List ℕ
+nameIn n f = cond (isDash f) (replicate n 32) f
 
 -- a key or an area: any bytes
 abbrev pub isPart : List ℕ → Bool

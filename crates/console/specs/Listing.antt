@@ -17,17 +17,18 @@ use Rattle.records.specs.Areas.{areaKeyPlace, keysOn, areaOf, newMaster, newPat
 use Rattle.plans.specs.Plan.{blocksSealed, storeAll, sealAll, committed, sealBelow, formatted}
 use Rattle.masters.specs.Find.{seek, find, tailFrom, lowestFree}
 use Rattle.masters.specs.Root.{addMasterFull, addMasterDamaged, addMasterStores, delMasterDamaged, delMasterStores}
-use Rattle.chains.specs.Chains.{readDamaged, hasPoints}
-use Rattle.chains.specs.Points.{neighboursAt, addDamaged, addStores}
+use Rattle.points.specs.Chains.{readDamaged, hasPoints}
+use Rattle.points.specs.Points.{neighboursAt, addDamaged, addStores}
 use Rattle.calls.specs.Ladder.{refusal, wrongKind, blankAreaKey, otherAreaKey, otherStoredKey, ladder}
 use Rattle.calls.specs.Outcome.{done, outcomeIn, outcome}
 use Rattle.calls.specs.Reply.{given, referenceAfter, areaAfter, storesOf, baseAfter}
-use Rattle.calls.specs.Scene.{setNamed, pathNamed, sceneUnder}
+use Rattle.calls.specs.Scene.{sceneUnder}
+use Rattle.schema.specs.Naming.{setNamed, pathNamed}
 use Rattle.cases.specs.Small.{twoSets, smallSchema}
 use Rattle.console.specs.Lines.{endOf}
 use Rattle.console.specs.References.{isSpelt, decimalOnto, digitsOnto}
 use Rattle.console.specs.Console.{fieldsMade, isRead, responded}
-use Rattle.console.specs.Session.{session}
+use Rattle.console.specs.Session.{begun, session}
 
 -- each line with its newline
 abbrev pub lines : List String → List ℕ
@@ -58,6 +59,6 @@ listingPrinted =
     ∷ "8 IMDL 0 -"
     ∷ []
 
-pub listing-prints : session (smallSchema 6) 1 [] (lines listing) (formatted 2) ≡ lines listingPrinted
+pub listing-prints : session (smallSchema 6) (begun (formatted 2)) (lines listing) ≡ lines listingPrinted
 unfolding xor countBelow otherStoredKey allBelow sumBelow lowestFrom concatBelow halfAt wordAt splice setWord every sameBytes sumOnto operationOf checkOf isSealed seal pathFrom entryFrom schemaOf linksBefore keyPlace linkPlace bodyPlace firstBlock sizeRule keepsRules blockOf placeOf blockRule headRule nameRule masterRule variableRule countRule pathRule slotRule setRule entryRule restRule namesRule clash lettersRule formRule areaKeyPlace keysOn areaOf newMaster newPaths newVariable blocksSealed storeAll sealAll committed sealBelow formatted seek find tailFrom lowestFree addMasterFull addMasterDamaged addMasterStores delMasterDamaged delMasterStores hasPoints neighboursAt addDamaged addStores refusal wrongKind blankAreaKey otherAreaKey readDamaged ladder done outcomeIn outcome given referenceAfter areaAfter storesOf baseAfter setNamed pathNamed sceneUnder twoSets smallSchema endOf isSpelt decimalOnto digitsOnto fieldsMade isRead responded session
 listing-prints = refl

@@ -5,11 +5,12 @@ use mathlib.Core.List.{List, _∷_, _++_}
 use native.Mathlib.Omega.{arith}
 use native.Mathlib.Numerals.{add-one}
 use lib.ListN.{length, take, drop, set, length-set, length-append, length-drop}
-use lib.Seq.{take-all, take-at, length-take-le, getD-set-same, drop-set-lt}
+use lib.Seq.{take-all, take-at, drop-at, length-take-le, getD-set-same, drop-set-lt}
 use borrow.Author.Tests.{lt-ltb, le-ltb}
 use Rattle.octets.specs.Octets.{splice, setWord, wordBytes, zeros}
-use Rattle.octets.specs.SpliceLaws.{splice-eq, drop-one}
-use Rattle.console.specs.LineLaws.{splice-whole}
+use Rattle.octets.specs.BelowLaws.{drop-later}
+use Rattle.octets.specs.SpliceLaws.{splice-eq, drop-one, splice-whole}
+use Rattle.console.specs.Console.{RestStays}
 use Rattle.console.specs.References.{digitsOnto}
 
 -- ---- what the buffer holds grows
@@ -18,6 +19,17 @@ pub take-splice : (xs : List ℕ) (at : ℕ) (ys : List ℕ) → at + length ys 
 take-splice xs at ys h =
     rw (splice-eq xs at ys h)
     (take-at (take at xs ++ ys) (drop (at + length ys) xs) (at + length ys) (length-append (take at xs) ys ∙ ap (λ (n : ℕ). n + length ys) (length-take-le at xs (omega arith))))
+
+-- and behind it the buffer stays as it was
+pub rest-splice : (xs : List ℕ) (at : ℕ) (ys : List ℕ) → at + length ys ≤ length xs → RestStays (at + length ys) xs (splice xs at ys)
+rest-splice xs at ys h =
+    record {
+      rest = rw (splice-eq xs at ys h)
+          (drop-at (take at xs ++ ys) (drop (at + length ys) xs) (at + length ys) (length-append (take at xs) ys ∙ ap (λ (n : ℕ). n + length ys) (length-take-le at xs (omega arith))));
+    }
+
+pub stays-behind : {was mid out : List ℕ} {n m : ℕ} → RestStays n was mid → n ≤ m → RestStays m mid out → RestStays m was out
+stays-behind {was} {mid} {out} {n} {m} e h f = record { rest = f .rest ∙ drop-later mid was n m h (e .rest) }
 
 -- the four characters of a reference
 pub word-whole : (v : ℕ) → setWord (zeros 4) 0 v ≡ wordBytes v

@@ -1,17 +1,16 @@
 -- The laws of decimal numbers: the turns of the loops that read and write one.
-use Prim.Native.Nat.{ℕ, zero, suc, _+_, _*_, _-_, _/_, _%_, _^_, _≤_, _<_}
-use mathlib.Core.Path.{_≡_, refl, _∙_}
+use Prim.Native.Nat.{ℕ, _+_, _*_, _-_, _≤_, _<_}
+use mathlib.Core.Path.{_≡_, refl}
 use mathlib.Core.Bool.{Bool, true, false, cond, _&&_, and-eq-true-iff}
 use mathlib.Core.List.{List, [], _∷_}
 use native.Mathlib.Omega.{arith}
-use native.Mathlib.Nat.{pow-succ'}
-use lib.Dec.{leb, ltb}
+use lib.Dec.{leb}
 use lib.ListN.{length, getD, drop, drop-of-length-le}
-use borrow.Author.Tests.{leb-true, le-leb, lt-leb, lt-ltb}
+use borrow.Author.Tests.{leb-true, le-leb, lt-leb}
 use Rattle.octets.specs.Octets.{wordAt, every}
 use Rattle.octets.specs.SpliceLaws.{drop-one}
 use Rattle.octets.specs.RunLaws.{every-turn, every-fails}
-use Rattle.console.specs.References.{isDigit, decimalOnto, decimalOf, digitsOnto, decimal, spellsFour, isDecimal, isReference, referenceOf}
+use Rattle.console.specs.References.{isDigit, decimalOnto, decimalOf, spellsFour, isDecimal, isReference, referenceOf}
 
 -- ---- reading
 
@@ -62,35 +61,3 @@ module _ (f : List ℕ) where
   said-decimal h = rw h refl
 
 -- ---- what is printed in decimal is read again
-
--- the last digit, behind the number of those before it
-last-read : (n : ℕ) (behind : List ℕ) → decimalOnto (n / 10) ((48 + n % 10) ∷ behind) ≡ decimalOnto n behind
-unfolding decimalOnto
-last-read n behind =
-    let e : n / 10 * 10 + (48 + n % 10 - 48) ≡ n = omega arith in
-    rw e refl
-
-one-read : (n : ℕ) (behind : List ℕ) → decimalOnto 0 ((48 + n) ∷ behind) ≡ decimalOnto n behind
-unfolding decimalOnto
-one-read n behind =
-    let e : 0 * 10 + (48 + n - 48) ≡ n = omega arith in
-    rw e refl
-
-tenth : (k n : ℕ) → n < 10 ^ suc (suc k) → n / 10 < 10 ^ suc k
-tenth k n h = let e : 10 ^ suc (suc k) ≡ 10 * 10 ^ suc k = pow-succ' 10 (suc k) in omega arith
-
-digits-read : (k n : ℕ) (behind : List ℕ) → n < 10 ^ suc k → decimalOnto 0 (digitsOnto (suc k) n behind) ≡ decimalOnto n behind
-unfolding digitsOnto
-digits-read zero n behind h = rw (lt-ltb n 10 (omega arith)) (one-read n behind)
-digits-read (suc k) n behind h =
-    by (ltb n 10) (digits-read k (n / 10) ((48 + n % 10) ∷ behind) (tenth k n h) ∙ last-read n behind)
-  where
-    by : (t : Bool) → decimalOnto 0 (digitsOnto (suc k) (n / 10) ((48 + n % 10) ∷ behind)) ≡ decimalOnto n behind
-        → decimalOnto 0 (cond t ((48 + n) ∷ behind) (digitsOnto (suc k) (n / 10) ((48 + n % 10) ∷ behind))) ≡ decimalOnto n behind
-    by true e = one-read n behind
-    by false e = e
-
--- for every number of 64 bits
-pub decimal-read : (n : ℕ) → n < 100000000000000000000 → decimalOf (decimal n) ≡ n
-unfolding decimalOnto
-decimal-read n h = digits-read 19 n [] h

@@ -12,12 +12,12 @@ use Rattle.schema.specs.Rules.{isCapitalOrDigit}
 -- ---- the four characters
 
 -- "LKxx is its four characters", xx capitals or digits
-abbrev pub isLink : ℕ → Bool
-isLink v = eqb v (linkRef (v / 256 % 256) (v % 256)) && isCapitalOrDigit (v / 256 % 256) && isCapitalOrDigit (v % 256)
+abbrev pub spellsLink : ℕ → Bool
+spellsLink v = eqb v (linkRef (v / 256 % 256) (v % 256)) && isCapitalOrDigit (v / 256 % 256) && isCapitalOrDigit (v % 256)
 
 -- v is END. or an LKxx
 unfoldable pub isSpelt : ℕ → Bool
-isSpelt v = eqb v endRef || isLink v
+isSpelt v = eqb v endRef || spellsLink v
 
 -- ---- decimal numbers
 

@@ -17,15 +17,15 @@ use Rattle.terms.specs.Operation.{operationOf}
 use Rattle.blocks.specs.Blocks.{checkOf, isSealed, seal}
 use Rattle.schema.specs.Rules.{blockRule, headRule, nameRule, masterRule, variableRule, countRule, pathRule, slotRule, setRule, entryRule, restRule, namesRule, clash, lettersRule, formRule}
 use Rattle.schema.specs.Layout.{linksBefore, keyPlace, linkPlace, bodyPlace, firstBlock, sizeRule, keepsRules}
-use Rattle.schema.specs.Decode.{pathFrom, entryFrom, entryOf, schemaOf}
-use Rattle.records.specs.Areas.{areaLength, areaKeyPlace}
+use Rattle.schema.specs.Decode.{pathFrom, entryFrom, schemaOf}
 use Rattle.plans.specs.Plan.{blocksSealed, sealBelow, formatted}
-use Rattle.calls.specs.Scene.{setNamed, pathNamed, sceneUnder}
+use Rattle.calls.specs.Scene.{sceneUnder}
+use Rattle.schema.specs.Naming.{setNamed, pathNamed}
 use Rattle.calls.specs.Ladder.{refusal, ladder}
 use Rattle.calls.specs.Reply.{storesOf, baseAfter}
 use Rattle.calls.specs.Outcome.{done, outcomeIn, outcome}
 use Rattle.cases.specs.Small.{twoSets, botl, pnts, smallSchema}
-use Rattle.console.specs.Console.{responded, ownArea, formatCall, Kept}
+use Rattle.console.specs.Console.{responded, formatCall, KeptLine}
 
 -- ---- the schema, stored in four parts
 
@@ -60,7 +60,7 @@ cut xs ys zero = refl
 cut [] ys (suc m) = refl
 cut (x ∷ xs) ys (suc m) = ap (λ (l : List ℕ). x ∷ l) (cut xs ys m)
 
-pub kept-next : (n r b : ℕ) (xs ys line : List ℕ) → Kept n xs line → Kept r ys (take n xs ++ (b ∷ [])) → Kept r ys (line ++ (b ∷ []))
+pub kept-next : (n r b : ℕ) (xs ys line : List ℕ) → KeptLine n xs line → KeptLine r ys (take n xs ++ (b ∷ [])) → KeptLine r ys (line ++ (b ∷ []))
 kept-next n r b xs ys line h k =
     record { fits = k .fits; bytes = k .bytes ∙ ap (λ (l : List ℕ). take 129 (l ++ (b ∷ []))) (h .bytes) ∙ cut line (b ∷ []) 129 }
 
@@ -76,10 +76,6 @@ kept-enough number line schema base = go (leb (length line) 129) refl
         rw (lt-leb (length (take 129 line)) 128 (omega arith), lt-leb (length line) 128 (omega (arith, leb-false (length line) 129 h))) refl
 
 -- ---- the areas of both sets have the length of the program's own
-
-pub own-area-fits : (areaLength (entryOf (schemaOf (smallSchema 6)) 0) ≡ length ownArea) × (areaLength (entryOf (schemaOf (smallSchema 6)) 1) ≡ length ownArea)
-unfolding halfAt wordAt splice setWord sumOnto sumBelow checkOf seal linksBefore keyPlace linkPlace bodyPlace firstBlock pathFrom entryFrom schemaOf areaKeyPlace twoSets smallSchema
-own-area-fits = (refl, refl)
 
 -- ---- what the program formats, 1,024 zeros, becomes the formatted store of two blocks
 

@@ -15,7 +15,7 @@ ghost use mathlib.Core.Bool.{true};
 ghost use Prim.Native.Nat.{_≤_};
 ghost use lib.Dec.{eqb};
 ghost use lib.ListN.{length};
-ghost use Rattle.console.specs.Lines.{fieldOf, isName, nameOf, isPart, partOf};
+ghost use Rattle.console.specs.Lines.{fieldOf, isName, nameIn, isPart, partOf};
 ghost use Rattle.console.specs.References.{isReference, referenceOf};
 ghost use Rattle.console.specs.Console.{Six, sixFields, fieldsMade};
 
@@ -83,7 +83,7 @@ pub fn operation_in(line: &[u8]) -> [u8; 5]
 pub fn set_in(line: &[u8]) -> [u8; 4]
     requires { ⌜ Six (now line) ⌝ }
     requires { ⌜ fieldsMade (now line) ≡ true ⌝ }
-    ensures { λ r. ⌜ r ≡ nameOf 4 (fieldOf (now (line .entry)) 1) ⌝ }
+    ensures { λ r. ⌜ r ≡ nameIn 4 (fieldOf (now (line .entry)) 1) ⌝ }
 {
     set_name(field(line, 1))
 }
@@ -99,7 +99,7 @@ pub fn reference_in(line: &[u8]) -> Reference
 pub fn path_in(line: &[u8]) -> [u8; 8]
     requires { ⌜ Six (now line) ⌝ }
     requires { ⌜ fieldsMade (now line) ≡ true ⌝ }
-    ensures { λ r. ⌜ r ≡ nameOf 8 (fieldOf (now (line .entry)) 3) ⌝ }
+    ensures { λ r. ⌜ r ≡ nameIn 8 (fieldOf (now (line .entry)) 3) ⌝ }
 {
     path_name(field(line, 3))
 }

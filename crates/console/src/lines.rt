@@ -3,7 +3,7 @@ ghost use mathlib.Core.Path.{_≡_};
 ghost use mathlib.Core.Bool.{true};
 ghost use Prim.Native.Nat.{_+_, _≤_};
 ghost use lib.ListN.{length};
-ghost use Rattle.console.specs.Lines.{endFrom, endOf, startOf, fieldOf, isDash, isName, nameOf, isPart, partOf};
+ghost use Rattle.console.specs.Lines.{endFrom, endOf, startOf, fieldOf, isDash, isName, nameIn, isPart, partOf};
 
 // Where the field that begins at `at` ends: at the next blank, or at the line's end.
 fn end_from(line: &[u8], at: usize) -> usize
@@ -90,7 +90,7 @@ pub fn part(f: &[u8]) -> &[u8]
 // A set's name; "-" is passed as blanks.
 pub fn set_name(f: &[u8]) -> [u8; 4]
     requires { ⌜ isName 4 (now f) ≡ true ⌝ }
-    ensures { λ r. ⌜ r ≡ nameOf 4 (now (f .entry)) ⌝ }
+    ensures { λ r. ⌜ r ≡ nameIn 4 (now (f .entry)) ⌝ }
 {
     let mut name = [32u8; 4];
     if is_dash(f) {
@@ -103,7 +103,7 @@ pub fn set_name(f: &[u8]) -> [u8; 4]
 // A path's name; "-" is passed as blanks.
 pub fn path_name(f: &[u8]) -> [u8; 8]
     requires { ⌜ isName 8 (now f) ≡ true ⌝ }
-    ensures { λ r. ⌜ r ≡ nameOf 8 (now (f .entry)) ⌝ }
+    ensures { λ r. ⌜ r ≡ nameIn 8 (now (f .entry)) ⌝ }
 {
     let mut name = [32u8; 8];
     if is_dash(f) {

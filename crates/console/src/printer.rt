@@ -1,4 +1,5 @@
-// What is printed for a line, put together in a buffer of 64 bytes. A function that puts something says what the buffer begins with then.
+// What is printed for a line, put together in a buffer of 64 bytes. A function that puts something says what the buffer begins
+// with then; behind that it stays as it was.
 use crate::references::is_spelt;
 use terms::Reference;
 use terms::Status;
@@ -9,12 +10,12 @@ ghost use lib.ListN.{length, take, drop};
 ghost use Rattle.octets.specs.Text.{text};
 ghost use Rattle.terms.specs.Status.{statusCode};
 ghost use Rattle.console.specs.References.{decimal, written};
-ghost use Rattle.console.specs.Console.{unmade};
+ghost use Rattle.console.specs.Console.{RestStays, unmade};
 
 // Stores src behind what the buffer holds, and gives the new length.
 pub fn put(out: &mut [u8; 64], at: usize, src: &[u8]) -> usize
     requires { ⌜ at + length (now src) ≤ 64 ⌝ }
-    ensures { λ r. ⌜ (r ≡ at + length (now (src .entry))) × (take r (now (out .exit)) ≡ take at (now (out .entry)) ++ now (src .entry)) ⌝ }
+    ensures { λ r. ⌜ (r ≡ at + length (now (src .entry))) × (take r (now (out .exit)) ≡ take at (now (out .entry)) ++ now (src .entry)) × RestStays r (now (out .entry)) (now (out .exit)) ⌝ }
 {
     octets::copy_in(out, at, src);
     at + src.len()
@@ -48,7 +49,7 @@ fn spell(digits: &mut [u8], n: u64) -> usize
 // Puts a number in decimal.
 fn put_decimal(out: &mut [u8; 64], at: usize, n: u64) -> usize
     requires { ⌜ at ≤ 44 ⌝ }
-    ensures { λ r. ⌜ (r ≤ at + 20) × (take r (now (out .exit)) ≡ take at (now (out .entry)) ++ decimal n) ⌝ }
+    ensures { λ r. ⌜ (r ≤ at + 20) × (take r (now (out .exit)) ≡ take at (now (out .entry)) ++ decimal n) × RestStays r (now (out .entry)) (now (out .exit)) × (at ≤ r) ⌝ }
 {
     let mut digits = [0u8; 20];
     let from = spell(&mut digits, n);
@@ -58,7 +59,7 @@ fn put_decimal(out: &mut [u8; 64], at: usize, n: u64) -> usize
 // Puts a reference: four characters where it equals them, else in decimal.
 fn put_reference(out: &mut [u8; 64], at: usize, v: u32) -> usize
     requires { ⌜ at ≤ 44 ⌝ }
-    ensures { λ r. ⌜ (r ≤ at + 20) × (take r (now (out .exit)) ≡ take at (now (out .entry)) ++ written v) ⌝ }
+    ensures { λ r. ⌜ (r ≤ at + 20) × (take r (now (out .exit)) ≡ take at (now (out .entry)) ++ written v) × RestStays r (now (out .entry)) (now (out .exit)) × (at ≤ r) ⌝ }
 {
     if is_spelt(v) {
         let mut four = [0u8; 4];
@@ -70,7 +71,7 @@ fn put_reference(out: &mut [u8; 64], at: usize, v: u32) -> usize
 
 // Begins a line: its number and a code, a blank behind each.
 fn start(out: &mut [u8; 64], number: u64, code: &[u8; 4]) -> usize
-    ensures { λ r. ⌜ (r ≤ 26) × (take r (now (out .exit)) ≡ decimal number ++ text " " ++ now (code .entry) ++ text " ") ⌝ }
+    ensures { λ r. ⌜ (r ≤ 26) × (take r (now (out .exit)) ≡ decimal number ++ text " " ++ now (code .entry) ++ text " ") × RestStays r (now (out .entry)) (now (out .exit)) ⌝ }
 {
     let a = put_decimal(out, 0, number);
     let b = put(out, a, b" ");
@@ -81,7 +82,7 @@ fn start(out: &mut [u8; 64], number: u64, code: &[u8; 4]) -> usize
 // Ends a line with an area, or what stands for it.
 pub fn finish(out: &mut [u8; 64], at: usize, area: &[u8]) -> usize
     requires { ⌜ (at ≤ 46) × (length (now area) ≤ 8) ⌝ }
-    ensures { λ r. ⌜ (r ≤ 64) × (take r (now (out .exit)) ≡ take at (now (out .entry)) ++ text " " ++ now (area .entry) ++ (10 ∷ [])) ⌝ }
+    ensures { λ r. ⌜ (r ≤ 64) × (take r (now (out .exit)) ≡ take at (now (out .entry)) ++ text " " ++ now (area .entry) ++ (10 ∷ [])) × RestStays r (now (out .entry)) (now (out .exit)) × (at ≤ r) ⌝ }
 {
     let a = put(out, at, b" ");
     let b = put(out, a, area);
@@ -90,7 +91,7 @@ pub fn finish(out: &mut [u8; 64], at: usize, area: &[u8]) -> usize
 
 // A line that makes no call.
 pub fn form(out: &mut [u8; 64], number: u64) -> usize
-    ensures { λ r. ⌜ (r ≤ 64) × (take r (now (out .exit)) ≡ unmade number) ⌝ }
+    ensures { λ r. ⌜ (r ≤ 64) × (take r (now (out .exit)) ≡ unmade number) × RestStays r (now (out .entry)) (now (out .exit)) ⌝ }
 {
     let a = start(out, number, b"FORM");
     let b = put(out, a, b"-");
@@ -99,7 +100,7 @@ pub fn form(out: &mut [u8; 64], number: u64) -> usize
 
 // A call's answer, all but the area.
 pub fn answer(out: &mut [u8; 64], number: u64, status: Status, reference: Reference) -> usize
-    ensures { λ r. ⌜ (r ≤ 46) × (take r (now (out .exit)) ≡ decimal number ++ text " " ++ statusCode status ++ text " " ++ written (reference .0)) ⌝ }
+    ensures { λ r. ⌜ (r ≤ 46) × (take r (now (out .exit)) ≡ decimal number ++ text " " ++ statusCode status ++ text " " ++ written (reference .0)) × RestStays r (now (out .entry)) (now (out .exit)) ⌝ }
 {
     let code = status.code();
     let at = start(out, number, &code);

@@ -34,10 +34,11 @@ pub fn is_spelt(v: u32) -> bool
 {
     let a = low(v / 256);
     let b = low(v);
+    let end = Reference::end();
     let link = Reference::link(a, b);
     let first = capital_or_digit(a);
     let second = capital_or_digit(b);
-    (v == 0x454E442E) | ((v == link.0) & first & second)
+    (v == end.0) | ((v == link.0) & first & second)
 }
 
 // A byte as a number: by value it brings its bound.

@@ -2,47 +2,34 @@
 use Prim.Native.Nat.{ℕ, _+_, _*_, _-_, _/_, _%_, _≤_, _<_}
 use mathlib.Core.Path.{_≡_, refl, sym, _∙_}
 use mathlib.Core.Bool.{Bool, true, false, cond, not, _&&_, and-false}
-use mathlib.Core.List.{List, [], _∷_}
+use mathlib.Core.List.{List}
 use mathlib.Core.Logic.{_⊎_, inl, inr, _≢_}
-use native.Mathlib.Nat.{eq-or-lt-of-le, div-le-self}
+use native.Mathlib.Nat.{eq-or-lt-of-le}
 use native.Mathlib.Omega.{arith}
 use lib.Dec.{eqb, leb, ltb}
 use lib.ListN.{length, getD, set, replicate, length-set, getD-replicate}
 use lib.Seq.{getD-set-same, getD-set-other, ext-getD}
 use borrow.Author.Tests.{ltb-true, ltb-false, lt-ltb, le-ltb, le-leb, lt-leb, eq-eqb, ne-eqb, not-true, not-false}
-use Rattle.octets.specs.Octets.{byteAt, wordAt}
 use Rattle.octets.specs.Below.{upto, countBelow, allBelow, sumBelow}
-use Rattle.octets.specs.BelowLaws.{allBelow-turn, allBelow-fails, countBelow-hit, countBelow-miss, countBelow-le, never-both, sumBelow-turn, length-upto, getD-upto, same?}
-use Rattle.schema.specs.Fields.{mastersOf, variablesOf, setsOf, entryAt, kindOf, countOf, roomOf, recordsOf, keyLengthOf, slotAt, masterOf}
+use Rattle.octets.specs.BelowLaws.{allBelow-turn, allBelow-fails, countBelow-hit, countBelow-miss, countBelow-le, sumBelow-turn, length-upto, getD-upto, same?}
+use Rattle.octets.specs.TestLaws.{never-both}
+use Rattle.schema.specs.Fields.{mastersOf, variablesOf, setsOf, countOf, keyLengthOf, masterOf}
 use Rattle.schema.specs.Rules.{isPathSlot, masterOfSlot, formRule}
-use Rattle.schema.specs.FormFacts.{Formed}
-use Rattle.schema.specs.Layout.{linksBefore, linksTo, pathKeyLength, keyPlace, linkPlace, bodyPlace, lengthOf, perBlock, blocksOf, firstBlock, totalBlocks, sizeRule, keepsRules}
+use Rattle.schema.specs.Formed.{Formed}
+use Rattle.schema.specs.Layout.{linksBefore, linksTo, pathKeyLength, keyPlace, bodyPlace, lengthOf, blocksOf, firstBlock, totalBlocks, sizeRule, keepsRules}
 use Rattle.schema.specs.RuleFacts.{slot-entry}
 use Rattle.schema.specs.LayoutLaws.{key-above, body-master, body-variable, per-some}
-use Rattle.schema.specs.Decode.{emptyEntry, emptySchema, pathFrom, entryFrom, schemaOf, decodedOf}
-use Rattle.schema.specs.declared.Path.{Path}
+use Rattle.schema.specs.Decode.{emptyEntry, entryFrom, schemaOf, decodedOf, fullEntry}
 use Rattle.schema.specs.declared.Entry.{Entry}
 use Rattle.schema.specs.declared.Decoded.{Decoded}
 use Rattle.decode.specs.declared.build.Links.{Links}
+use Rattle.decode.specs.Decoding.{Counted, PathAt, undecoded}
 
 -- ---- the paths to each master, counted over the first q slots
-
-pub record Counted (s : List ℕ) (q : ℕ) (l : Links) : Type 0 where
-  pub slots : length (l .number) ≡ 32
-  pub masters : length (l .total) ≡ 4
-  pub number : (p : ℕ) → p < q → isPathSlot s p ≡ true → getD (l .number) p 0 ≡ linksBefore s (masterOfSlot s p) p
-  pub total : (m : ℕ) → m < 4 → getD (l .total) m 0 ≡ linksBefore s m q
 
 -- the path in a slot of a set leads to one of the masters
 pub slot-master : (s : List ℕ) (q : ℕ) → Formed s → q < 4 * setsOf s → isPathSlot s q ≡ true → masterOfSlot s q < mastersOf s
 slot-master s q f h e = f .set (q / 4) (omega arith) .leads (q % 4) (ltb-true (q % 4) (countOf s (q / 4)) e)
-
--- path j of set i is one that can be read: its set is one of eight, its slot one of four, its master one of four
-pub record PathAt (s : List ℕ) (i j : ℕ) : Type 0 where
-  pub long : length s ≡ 512
-  pub set : i < 8
-  pub slot : j < 4
-  pub leads : masterOf s i j < 4
 
 pub path-at : (s : List ℕ) (i j : ℕ) → Formed s → i < setsOf s → j < countOf s i → PathAt s i j
 path-at s i j f h k =
@@ -186,37 +173,6 @@ module _ {ℓ} {A : Type ℓ} (f : ℕ → A) (e : A) where
 
 -- ---- what decoding makes
 
--- path j of set i, and set i, where they are: `pathFrom` and `entryFrom` without their tests
-abbrev pub fullPath : List ℕ → ℕ → ℕ → Path
-fullPath s i j =
-    record {
-      letters = byteAt s (slotAt i j) ∷ byteAt s (slotAt i j + 1) ∷ [];
-      master = record { 0 = masterOf s i j };
-      len = pathKeyLength s i j;
-      at = keyPlace s i j;
-      link = linkPlace s i j;
-    }
-
-abbrev pub fullEntry : List ℕ → ℕ → Entry
-fullEntry s i =
-    record {
-      name = wordAt s (entryAt i);
-      kind = kindOf s i;
-      count = countOf s i;
-      room = roomOf s i;
-      records = recordsOf s i;
-      key = keyLengthOf s i;
-      per = perBlock s i;
-      size = lengthOf s i;
-      body = bodyPlace s i;
-      first = record { 0 = firstBlock s i };
-      paths = upto (pathFrom s i) 4;
-    }
-
--- the answer to a schema that breaks a rule
-abbrev pub refusal : Decoded
-refusal = record { ok = false; schema = emptySchema }
-
 -- ---- the sets, one after the other
 
 -- "L the record length, at most 508"
@@ -224,24 +180,24 @@ abbrev pub fits : List ℕ → ℕ → Bool
 fits s i = leb (lengthOf s i) 508
 
 -- the first i sets are laid out, and the next begins in block `first`
-pub record Laid (s : List ℕ) (i first : ℕ) (entries : List Entry) : Type 0 where
+pub record LaidOut (s : List ℕ) (i first : ℕ) (entries : List Entry) : Type 0 where
   pub eight : length entries ≡ 8
   pub made : entries ≡ upto (filled (fullEntry s) emptyEntry i) 8
   pub short : allBelow (fits s) i ≡ true
   pub next : first ≡ firstBlock s i
-  pub bound : first ≤ 66042 * i
+  pub bound : first ≤ 131069 * i
 
-pub laid-none : (s : List ℕ) {e : Entry} → e ≡ emptyEntry → Laid s 0 0 (replicate 8 e)
+pub laid-none : (s : List ℕ) {e : Entry} → e ≡ emptyEntry → LaidOut s 0 0 (replicate 8 e)
 unfolding allBelow firstBlock sumBelow
 laid-none s q = record { eight = refl; made = rw q refl; short = refl; next = refl; bound = omega arith }
 
 module _ (s : List ℕ) (i : ℕ) {e : Entry} (q : e ≡ fullEntry s i) where
   -- a set whose records fit into a block has its count of blocks
-  pub blocks-ready : Formed s → i < setsOf s → e .size ≤ 508 → (e .records ≤ 65535) × (1 ≤ e .per) × (e .per ≤ 508)
-  blocks-ready f h l = rw q (f .set i h .many, per-some s i (rw q at l), div-le-self 508 (lengthOf s i))
+  pub blocks-ready : Formed s → i < setsOf s → e .size ≤ 508 → (e .records ≤ 65535) × (1 ≤ e .per)
+  blocks-ready f h l = rw q (f .set i h .many, per-some s i (rw q at l))
 
-  pub laid-next : {first b : ℕ} {entries : List Entry} → Laid s i first entries → i < 8 → e .size ≤ 508
-      → (b ≡ (e .records + (e .per - 1)) / e .per) × (b ≤ 66042) → Laid s (i + 1) (first + b) (set entries i e)
+  pub laid-next : {first b : ℕ} {entries : List Entry} → LaidOut s i first entries → i < 8 → e .size ≤ 508
+      → (b ≡ (e .records + (e .per - 1)) / e .per) × (b ≤ 131069) → LaidOut s (i + 1) (first + b) (set entries i e)
   unfolding firstBlock
   laid-next {first} {b} {entries} d h l k =
       record {
@@ -253,13 +209,13 @@ module _ (s : List ℕ) (i : ℕ) {e : Entry} (q : e ≡ fullEntry s i) where
       }
 
   -- the ways out
-  pub too-long : i < setsOf s → 508 < e .size → {r : Decoded} → r ≡ refusal → r ≡ decodedOf s
+  pub too-long : i < setsOf s → 508 < e .size → {r : Decoded} → r ≡ undecoded → r ≡ decodedOf s
   unfolding decodedOf keepsRules sizeRule
   too-long h l p =
       rw (allBelow-fails (fits s) (setsOf s) i h (lt-leb (lengthOf s i) 508 (rw q at l)), and-false (formRule s)) p
 
-module _ (s : List ℕ) {first : ℕ} {entries : List Entry} (d : Laid s (setsOf s) first entries) where
-  pub too-many : 4096 < first → {r : Decoded} → r ≡ refusal → r ≡ decodedOf s
+module _ (s : List ℕ) {first : ℕ} {entries : List Entry} (d : LaidOut s (setsOf s) first entries) where
+  pub too-many : 4096 < first → {r : Decoded} → r ≡ undecoded → r ≡ decodedOf s
   unfolding decodedOf keepsRules sizeRule
   too-many l p =
       rw (d .short, lt-leb (totalBlocks s) 4096 (rw (d .next) at l), and-false (formRule s)) p
@@ -270,6 +226,6 @@ module _ (s : List ℕ) {first : ℕ} {entries : List Entry} (d : Laid s (setsOf
   laid-all f l =
       rw (f, d .short, le-leb (totalBlocks s) 4096 (rw (d .next) at l), d .next, d .made) refl
 
-pub no-form : (s : List ℕ) {b : Bool} → b ≡ formRule s → not b ≡ true → {r : Decoded} → r ≡ refusal → r ≡ decodedOf s
+pub no-form : (s : List ℕ) {b : Bool} → b ≡ formRule s → not b ≡ true → {r : Decoded} → r ≡ undecoded → r ≡ decodedOf s
 unfolding decodedOf keepsRules
 no-form s {b} e n p = rw (← e, not-true b n) p

@@ -5,19 +5,20 @@ use schema::Decoded;
 use schema::Entry;
 use schema::Path;
 use schema::Schema;
+use schema::layout::blocks_held;
 use terms::BlockNo;
 use terms::EntryNo;
 ghost use mathlib.Core.Path.{_≡_};
 ghost use mathlib.Core.Bool.{true};
-ghost use Prim.Native.Nat.{_+_, _*_, _-_, _/_, _≤_, _<_};
+ghost use Prim.Native.Nat.{_+_, _*_, _/_, _≤_, _<_};
 ghost use lib.ListN.{length};
 ghost use Rattle.octets.specs.Below.{upto};
 ghost use Rattle.schema.specs.Fields.{setsOf, countOf, masterOf};
 ghost use Rattle.schema.specs.Rules.{masterOfSlot, formRule};
-ghost use Rattle.schema.specs.FormFacts.{Formed};
+ghost use Rattle.schema.specs.Formed.{Formed};
 ghost use Rattle.schema.specs.Layout.{linksBefore, pathKeyLength, keyPlace, bodyPlace, firstBlock};
-ghost use Rattle.schema.specs.Decode.{emptyPath, emptyEntry, pathFrom, decodedOf};
-ghost use Rattle.decode.specs.DecodeLaws.{Counted, PathAt, fullPath, fullEntry, refusal};
+ghost use Rattle.schema.specs.Decode.{emptyPath, emptyEntry, pathFrom, decodedOf, fullPath, fullEntry};
+ghost use Rattle.decode.specs.Decoding.{Counted, PathAt, undecoded};
 
 // The paths to each master, counted.
 pub(crate) struct Links {
@@ -188,15 +189,6 @@ fn per_block(size: u32) -> u16
     (508 / size) as u16
 }
 
-// How many blocks the records of a set take.
-fn blocks_of(records: u32, per: u16) -> u32
-    requires { ⌜ (records ≤ 65535) × (1 ≤ per) × (per ≤ 508) ⌝ }
-    ensures { λ r. ⌜ (r ≡ (records + (per - 1)) / per) × (r ≤ 66042) ⌝ }
-{
-    let n = per as u32;
-    (records + (n - 1)) / n
-}
-
 // Set i, whose records begin in block `first`.
 fn set(s: &[u8], i: usize, l: Links, first: u32) -> Entry
     requires { ⌜ Formed (now s) ⌝ }
@@ -247,7 +239,7 @@ fn no_entry() -> Entry
 
 // The answer to a schema that breaks a rule.
 pub(crate) fn refused() -> Decoded
-    ensures { λ r. ⌜ r ≡ refusal ⌝ }
+    ensures { λ r. ⌜ r ≡ undecoded ⌝ }
 {
     let entries = [no_entry(); 8];
     let schema = Schema {
@@ -276,7 +268,7 @@ fn laid_out(s: &[u8], l: Links) -> Decoded
         if 508 < e.size {
             return refused();
         }
-        first += blocks_of(e.records, e.per);
+        first += blocks_held(e);
         entries[i] = e;
         i += 1;
     }

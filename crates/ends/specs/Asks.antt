@@ -1,26 +1,18 @@
 -- What a function of the store is given: a decoded schema with its base, and the parameters of the call that it speaks of. The scene of a
 -- call under the schema is `sceneUnder t c`.
-use Prim.Native.Nat.{ℕ, _*_, _<_}
+use Prim.Native.Nat.{ℕ}
 use mathlib.Core.Path.{_≡_}
 use mathlib.Core.List.{List}
 use Rattle.terms.specs.declared.Status.{Status}
 use Rattle.terms.specs.declared.Operation.{Operation}
 use Rattle.terms.specs.Operation.{operationOf}
 use Rattle.schema.specs.declared.Schema.{Schema}
-use Rattle.schema.specs.Decode.{entryOf, setCount}
-use Rattle.schema.specs.Guarantee.{SchemaOk}
-use Rattle.areas.specs.AreaLaws.{Fields}
 use Rattle.calls.specs.Call.{Call, Outcome}
 use Rattle.calls.specs.Scene.{sceneUnder}
 use Rattle.calls.specs.Ladder.{refusal}
 use Rattle.ends.specs.Ends.{Ends}
-use Rattle.calls.specs.Answer.{firstOf, answered, placeTests, formTests, seekTests, restTests}
-
--- a schema that keeps the rules, and a base of its length
-pub record Laid (t : Schema) (n : ℕ) : Type 0 where
-  pub ok : SchemaOk t
-  pub fields : (i : ℕ) → i < setCount t → Fields (entryOf t i)
-  pub size : n ≡ 512 * t .blocks
+use Rattle.calls.specs.Answer.{answered, placeTests, formTests, seekTests, restTests}
+use Rattle.terms.specs.Status.{firstOf}
 
 -- the call c asks for the operation o, with this name, reference, key, area and base
 pub record Asks (c : Call) (o : Operation) (n : List ℕ) (r : ℕ) (k a b : List ℕ) : Type 0 where
@@ -38,8 +30,8 @@ abbrev pub placedStatus : Schema → Call → Status
 placedStatus t c = firstOf (refusal (placeTests (sceneUnder t c) c)) (refusal (formTests (sceneUnder t c) c))
 
 -- what the call comes to, behind the general tests; and once set, path and forms are right
-unfoldable pub behind : Schema → Call → Outcome
-behind t c =
+unfoldable pub pastGeneral : Schema → Call → Outcome
+pastGeneral t c =
     answered (sceneUnder t c) c
     (firstOf (placedStatus t c) (firstOf (refusal (seekTests (sceneUnder t c) c)) (refusal (restTests (sceneUnder t c) c))))
 
@@ -48,4 +40,4 @@ placedOutcome t c = answered (sceneUnder t c) c (firstOf (refusal (seekTests (sc
 
 -- every call that asks with these parameters comes to this status and reference, this area and this base
 pub record Answers (t : Schema) (o : Operation) (n : List ℕ) (r : ℕ) (k a b : List ℕ) (s : Status) (q : ℕ) (new after : List ℕ) : Type 0 where
-  pub told : (c : Call) → Asks c o n r k a b → Ends (behind t c) s q new after
+  pub told : (c : Call) → Asks c o n r k a b → Ends (pastGeneral t c) s q new after

@@ -4,15 +4,14 @@ use Prim.Native.Nat.{ℕ, _<_}
 use mathlib.Core.Path.{_≡_, refl, _∙_}
 use mathlib.Core.Bool.{Bool, true, false, cond, not}
 use mathlib.Core.List.{List, [], _∷_}
-use native.Mathlib.Omega.{arith}
 use lib.Dec.{eqb}
 use borrow.Author.Tests.{eqb-true, eq-eqb, ne-eqb}
 use Rattle.terms.specs.declared.Status.{Status}
 use Rattle.terms.specs.declared.Status.the-variants.{Done, Damg}
 use Rattle.terms.specs.declared.Operation.the-variants.{Formt}
 use Rattle.terms.specs.Terms.{endRef}
-use Rattle.terms.specs.Status.{statusNumber, isDone}
-use Rattle.terms.specs.Laws.{status-number-one}
+use Rattle.terms.specs.Status.{statusNumber, isDone, firstOf}
+use Rattle.terms.specs.Laws.{status-number-one, not-done}
 use Rattle.schema.specs.declared.Entry.{Entry}
 use Rattle.records.specs.Areas.{areaOf}
 use Rattle.plans.specs.Plan.{Store, blocksSealed, storeAll, sealAll, committed}
@@ -20,7 +19,7 @@ use Rattle.calls.specs.Call.{Call, Outcome, oneOf}
 use Rattle.calls.specs.Scene.{Scene}
 use Rattle.calls.specs.Reply.{orEnd, given, referenceAfter, areaAfter, storesOf, baseAfter}
 use Rattle.calls.specs.Outcome.{refused, done}
-use Rattle.calls.specs.Answer.{firstOf, answered}
+use Rattle.calls.specs.Answer.{answered}
 use Rattle.calls.specs.RestLaws.{storable}
 
 -- what the code came to is this outcome
@@ -29,9 +28,6 @@ pub record Ends (o : Outcome) (s : Status) (r : ℕ) (a b : List ℕ) : Type 0 w
   pub reference : r ≡ o .reference
   pub area : a ≡ o .area
   pub base : b ≡ o .base
-
-pub not-done : (s : Status) → 0 < statusNumber s → isDone s ≡ false
-not-done s h = ne-eqb (statusNumber s) 0 (λ e. omega arith)
 
 -- ---- refused
 

@@ -7,6 +7,7 @@ use native.Mathlib.Omega.{arith}
 use lib.Dec.{eqb}
 use lib.ListN.{length}
 use borrow.Author.Tests.{eqb-true, not-false}
+use Rattle.octets.specs.TestLaws.{asked}
 use Rattle.terms.specs.declared.Status.{Status}
 use Rattle.terms.specs.declared.Status.the-variants.{Done, Area, Klen}
 use Rattle.terms.specs.declared.Operation.{Operation}
@@ -20,21 +21,16 @@ pub passed : (b : Bool) (s u : Status) → 0 < statusNumber s → cond b s u ≡
 passed true s u h e = absurd (let z : statusNumber s ≡ 0 = ap statusNumber e in omega arith)
 passed false s u h e = (refl, e)
 
--- a test that was asked and passed
-pub asked : (a b : Bool) → a ≡ true → (a && b) ≡ false → b ≡ false
-asked true b h e = e
-asked false b h e = absurd (let z : _≡_ {A = ℕ} 0 1 = cc in omega arith)
-
 module _ (o : Operation) (e : Entry) (on link k ref : ℕ) (key area : List ℕ) (d : formStatus o e on link k ref key area ≡ Done) where
   -- 7
   pub area-length : rungsOf o .area ≡ true → length area ≡ areaLength e
   unfolding formStatus
   area-length h =
-      eqb-true _ _ (not-false _ (asked (rungsOf o .area) _ h (passed (rungsOf o .area && not (eqb (length area) (areaLength e))) Area _ (omega arith) d .0)))
+      eqb-true _ _ (not-false _ (asked (rungsOf o .area) _ (passed (rungsOf o .area && not (eqb (length area) (areaLength e))) Area _ (omega arith) d .0) h))
 
   -- 8
   pub key-length : rungsOf o .key ≡ true → length key ≡ k
   unfolding formStatus
   key-length h =
       let p = passed (rungsOf o .area && not (eqb (length area) (areaLength e))) Area _ (omega arith) d in
-      eqb-true _ _ (not-false _ (asked (rungsOf o .key) _ h (passed (rungsOf o .key && not (eqb (length key) k)) Klen _ (omega arith) (p .1) .0)))
+      eqb-true _ _ (not-false _ (asked (rungsOf o .key) _ (passed (rungsOf o .key && not (eqb (length key) k)) Klen _ (omega arith) (p .1) .0) h))

@@ -10,7 +10,7 @@ ghost use lib.ListN.{length};
 ghost use Rattle.schema.specs.Place.{LiesIn};
 ghost use Rattle.records.specs.Areas.{areaLength};
 ghost use Rattle.terms.specs.declared.Status.the-variants.{Done};
-ghost use Rattle.areas.specs.AreaLaws.{Fields};
+ghost use Rattle.records.specs.Fields.{Fields};
 ghost use Rattle.plans.specs.PlanOk.{PlanOk, AreaOk};
 ghost use Rattle.plans.specs.Stores.{planStores};
 ghost use Rattle.ends.specs.Ends.{Ends, gave, settled};

@@ -9,7 +9,7 @@ use lib.ListN.{length, length-replicate}
 use lib.Seq.{drop-length}
 use Rattle.octets.specs.Octets.{run, splice, word4, setWord, zeros, sumOnto}
 use Rattle.octets.specs.SpliceLaws.{splice-eq, run-zeros}
-use Rattle.blocks.specs.Blocks.{blockAt, checkOf, seal}
+use Rattle.blocks.specs.Blocks.{blockAt, checkAt, checkOf, seal}
 use Rattle.blocks.specs.Laws.{run-seal}
 use Rattle.plans.specs.Plan.{sealBelow, formatted}
 
@@ -59,7 +59,7 @@ unfolding checkOf
 zero-check n h = ap (sumOnto n) (run-zeros 512 0 508 (omega arith)) ∙ sum-zeros 127 508 n refl h
 
 -- so it is stored as it is
-pub zero-seal : (b : List ℕ) (n : ℕ) → run b (blockAt n) 512 ≡ zeros 512 → n < 4294967296 → setWord b (n * 512 + 508) n ≡ seal b n
+pub zero-seal : (b : List ℕ) (n : ℕ) → run b (blockAt n) 512 ≡ zeros 512 → n < 4294967296 → setWord b (checkAt n) n ≡ seal b n
 unfolding seal
 zero-seal b n z h = rw (z, zero-check n h) refl
 

@@ -22,8 +22,7 @@ fn seal_zeros(base: &mut [u8], n: BlockNo)
     requires { ⌜ run (now base) (blockAt (n .0)) 512 ≡ zeros 512 ⌝ }
     ensures { λ _. ⌜ now (base .exit) ≡ seal (now (base .entry)) (n .0) ⌝ }
 {
-    let at = (n.0 as usize) * 512 + 508;
-    octets::put_word(base, at, n.0);
+    blocks::put_check(base, n, n.0);
 }
 
 // "and sets the checks": block by block, of a data base that is all zero.

@@ -1,7 +1,7 @@
 -- The tests 7 to 11 of document 01, "Status numbers", that look at a call's parameters alone: area, control key and reference, once set
 -- and path are known. Which of them a call has is its rungs; the order is the ladder's.
 use Prim.Native.Nat.{ℕ}
-use mathlib.Core.Bool.{cond, not, _&&_, _||_}
+use mathlib.Core.Bool.{cond, not, _&&_, _||_, Bool}
 use mathlib.Core.List.{List, [], _∷_}
 use lib.Dec.{eqb, leb}
 use lib.ListN.{length}
@@ -49,3 +49,12 @@ formStatus o e on link k ref key area =
     (cond (rungsOf o .blank && blankAreaKey e area) Bctl
     (cond (rungsOf o .same && otherAreaKey e on key area) Keys
     (referenceStatus (rungsOf o) e link ref)))))
+
+-- the answers of the tests behind the two lengths, the first that refuses deciding
+abbrev pub decided : Bool → Bool → Bool → Bool → Status
+decided control blank other reference = cond control Bctl (cond blank Bctl (cond other Keys (cond reference Ivrp Done)))
+
+-- the four tests of the reference in one
+abbrev pub wrongReference : Rungs → Entry → ℕ → ℕ → Bool
+wrongReference q e link ref =
+    q .link && not (eqb ref link || inSet e ref) || (q .sweep && not (leb ref (e .records)) || (q .last && eqb ref endRef || q .number && not (inSet e ref)))

@@ -1,32 +1,32 @@
 -- The tests of the parameters and the ladder: they are its tests from Area on. And the laws by which the code asks them: a test on
--- the area's keys is asked where the area has its length, and one answer stands for the four tests of the reference.
+-- the area's keys is asked where the area has its length, one on the control key where that has its length, and one answer stands for the
+-- four tests of the reference.
 use Prim.Native.Nat.{ℕ, _<_}
 use mathlib.Core.Path.{_≡_, refl}
 use mathlib.Core.Bool.{Bool, true, false, cond, not, _&&_, _||_}
 use mathlib.Core.List.{List}
-use lib.Dec.{eqb, leb, ltb}
+use lib.Dec.{eqb, ltb}
 use lib.ListN.{length}
-use borrow.Author.Tests.{ltb-true, not-false}
+use borrow.Author.Tests.{eqb-true, eq-eqb, ne-eqb, ltb-true, not-false}
 use Rattle.octets.specs.Octets.{allBlank, sameBytes}
 use Rattle.octets.specs.Below.{allBelow}
-use Rattle.octets.specs.BelowLaws.{never-both, allBelow-fails}
-use Rattle.terms.specs.Terms.{endRef}
+use Rattle.octets.specs.BelowLaws.{allBelow-fails}
+use Rattle.octets.specs.TestLaws.{never-both}
 use Rattle.terms.specs.declared.Status.{Status}
 use Rattle.terms.specs.declared.Status.the-variants.{Done, Area, Klen, Bctl, Keys, Ivrp}
 use Rattle.terms.specs.declared.Operation.{Operation}
 use Rattle.terms.specs.declared.Operation.the-variants.{Formt, Sinon, AddM, DelM, Readm, Writm, Rqloc, Rdnxt, Readv, Readr, Readd, Writv, Addvc, Addvb, Addva, Delvd, Unknown}
 use Rattle.schema.specs.declared.Entry.{Entry}
-use Rattle.schema.specs.Place.{inSet}
 use Rattle.schema.specs.Decode.{pathOf}
 use Rattle.records.specs.Records.{keyOn}
 use Rattle.records.specs.Areas.{isMaster, areaLength, areaMasterKey, areaKeyOn}
 use Rattle.calls.specs.Call.{Call, oneOf, variableCalls}
 use Rattle.calls.specs.Scene.{Scene}
-use Rattle.calls.specs.Reply.{linkOf}
+use Rattle.schema.specs.Naming.{linkOf}
 use Rattle.calls.specs.Answer.{formTests}
 use Rattle.calls.specs.Ladder.{refusal, wrongKind, blankAreaKey, otherAreaKey, otherStoredKey}
 use Rattle.forms.specs.declared.Rungs.{Rungs}
-use Rattle.forms.specs.Form.{rungsOf, referenceStatus, formStatus}
+use Rattle.forms.specs.Form.{rungsOf, referenceStatus, formStatus, decided, wrongReference}
 
 -- ---- the ladder
 
@@ -96,15 +96,35 @@ asks-area Addva = refl
 asks-area Delvd = refl
 asks-area Unknown = refl
 
--- the answers of the tests, the first that refuses deciding
-abbrev pub decided : Bool → Bool → Bool → Bool → Bool → Bool → Status
-decided area length control blank other reference =
-    cond area Area (cond length Klen (cond control Bctl (cond blank Bctl (cond other Keys (cond reference Ivrp Done)))))
+-- and the control key's
+pub asks-key : (o : Operation) → (rungsOf o .key || not (rungsOf o .blank || rungsOf o .same)) ≡ true
+asks-key Formt = refl
+asks-key Sinon = refl
+asks-key AddM = refl
+asks-key DelM = refl
+asks-key Readm = refl
+asks-key Writm = refl
+asks-key Rqloc = refl
+asks-key Rdnxt = refl
+asks-key Readv = refl
+asks-key Readr = refl
+asks-key Readd = refl
+asks-key Writv = refl
+asks-key Addvc = refl
+asks-key Addvb = refl
+asks-key Addva = refl
+asks-key Delvd = refl
+asks-key Unknown = refl
 
--- the four tests of the reference in one
-abbrev pub wrongReference : Rungs → Entry → ℕ → ℕ → Bool
-wrongReference q e link ref =
-    q .link && not (eqb ref link || inSet e ref) || (q .sweep && not (leb ref (e .records)) || (q .last && eqb ref endRef || q .number && not (inSet e ref)))
+-- so an area whose keys are asked for has its length
+asked-fits : (ar x ft : Bool) → (ar || not x) ≡ true → (ar && not ft) ≡ false → x ≡ true → ft ≡ true
+asked-fits true x true h g a = refl
+asked-fits true x false h g a = cc
+asked-fits false true ft h g a = cc
+asked-fits false false ft h g a = cc
+
+pub area-fits : (o : Operation) {n m : ℕ} → (rungsOf o .area && not (eqb n m)) ≡ false → (rungsOf o .blank || rungsOf o .same) ≡ true → n ≡ m
+area-fits o {n} {m} g a = eqb-true n m (asked-fits (rungsOf o .area) (rungsOf o .blank || rungsOf o .same) (eqb n m) (asks-area o) g a)
 
 -- a test that is not asked, and one that is
 pub not-asked : (b x : Bool) → b ≡ false → false ≡ (b && x)
@@ -160,35 +180,36 @@ either : (a b : Bool) (s t : Status) → cond (a || b) s t ≡ cond a s (cond b 
 either true b s t = refl
 either false b s t = refl
 
--- a test of the area's keys may wait for an area that has its length: behind the test of the length it makes no difference
-waits : (ar ft bl sm : Bool) (kl kb x y : Bool) (r : Status) → (ar || not (bl || sm)) ≡ true
-    → cond (ar && not ft) Area (cond kl Klen (cond kb Bctl (cond ((bl && ft) && x) Bctl (cond ((sm && ft) && y) Keys r))))
-    ≡ cond (ar && not ft) Area (cond kl Klen (cond kb Bctl (cond (bl && x) Bctl (cond (sm && y) Keys r))))
-waits true true true true kl kb x y r h = refl
-waits true true true false kl kb x y r h = refl
-waits true true false true kl kb x y r h = refl
-waits true true false false kl kb x y r h = refl
-waits true false bl sm kl kb x y r h = refl
-waits false ft true sm kl kb x y r h = cc
-waits false ft false true kl kb x y r h = cc
-waits false ft false false kl kb x y r h = refl
-
 -- the four tests of the reference in one answer
 by-reference : (q : Rungs) (e : Entry) (link ref : ℕ) → cond (wrongReference q e link ref) Ivrp Done ≡ referenceStatus q e link ref
 by-reference q e link ref = rw (either, either, either) refl
 
-pub form-decided : (o : Operation) (e : Entry) (on link k ref : ℕ) (key area : List ℕ)
-    → decided
-    (rungsOf o .area && not (eqb (length area) (areaLength e)))
-    (rungsOf o .key && not (eqb (length key) k))
-    (rungsOf o .key && allBlank key)
-    ((rungsOf o .blank && eqb (length area) (areaLength e)) && blankAreaKey e area)
-    ((rungsOf o .same && eqb (length area) (areaLength e)) && otherAreaKey e on key area)
-    (wrongReference (rungsOf o) e link ref)
-    ≡ formStatus o e on link k ref key area
-unfolding formStatus
-form-decided o e on link k ref key area =
-    let q = rungsOf o in
-    rw (by-reference q e link ref)
-    (waits (q .area) (eqb (length area) (areaLength e)) (q .blank) (q .same) (q .key && not (eqb (length key) k)) (q .key && allBlank key)
-    (blankAreaKey e area) (otherAreaKey e on key area) (referenceStatus q e link ref) (asks-area o))
+neither : (k b s : Bool) → (k || not (b || s)) ≡ true → k ≡ false → (b ≡ false) × (s ≡ false)
+neither true b s h e = absurd (never-both true refl e)
+neither false true s h e = absurd (never-both false h refl)
+neither false false true h e = absurd (never-both false h refl)
+neither false false false h e = (refl, refl)
+
+module _ (o : Operation) (e : Entry) (on link k ref : ℕ) (key area : List ℕ) where
+  pub form-area : (rungsOf o .area && not (eqb (length area) (areaLength e))) ≡ true → Area ≡ formStatus o e on link k ref key area
+  unfolding formStatus
+  form-area h = rw h refl
+
+  module _ (fits : (rungsOf o .area && not (eqb (length area) (areaLength e))) ≡ false) where
+    -- a call with no control key asks for no key
+    pub form-keyless : rungsOf o .key ≡ false → decided false false false (wrongReference (rungsOf o) e link ref) ≡ formStatus o e on link k ref key area
+    unfolding formStatus
+    form-keyless h =
+        let n = neither (rungsOf o .key) (rungsOf o .blank) (rungsOf o .same) (asks-key o) h in
+        rw (fits, h, n .0, n .1) (by-reference (rungsOf o) e link ref)
+
+    module _ (keyed : rungsOf o .key ≡ true) where
+      pub form-klen : (length key ≡ k → ⊥) → Klen ≡ formStatus o e on link k ref key area
+      unfolding formStatus
+      form-klen h = rw (fits, keyed, ne-eqb (length key) k h) refl
+
+      pub form-keys : length key ≡ k
+          → decided (allBlank key) (rungsOf o .blank && blankAreaKey e area) (rungsOf o .same && otherAreaKey e on key area) (wrongReference (rungsOf o) e link ref)
+          ≡ formStatus o e on link k ref key area
+      unfolding formStatus
+      form-keys h = rw (fits, keyed, eq-eqb (length key) k h, by-reference (rungsOf o) e link ref) refl

@@ -2,23 +2,22 @@
 use schema::Entry;
 use schema::layout::path_of;
 use schema::layout::record_of;
+use terms::Key;
 use terms::Operation;
 use terms::RecordNo;
+use terms::Reference;
 use terms::Status;
 ghost use mathlib.Core.Path.{_≡_};
-ghost use mathlib.Core.Bool.{false, true, _&&_};
-ghost use Prim.Native.Nat.{_+_, _<_, _≤_};
+ghost use mathlib.Core.Bool.{false, true, _&&_, _||_};
+ghost use Prim.Native.Nat.{_<_, _≤_};
 ghost use lib.ListN.{length};
-ghost use Rattle.octets.specs.Octets.{allBlank, sameBytes, run};
+ghost use Rattle.octets.specs.Octets.{allBlank};
+ghost use Rattle.terms.specs.Terms.{keyOf};
 ghost use Rattle.schema.specs.Place.{InSet, LiesIn};
 ghost use Rattle.records.specs.Areas.{isMaster, areaLength};
-ghost use Rattle.areas.specs.AreaLaws.{Fields};
+ghost use Rattle.records.specs.Fields.{Fields};
 ghost use Rattle.calls.specs.Ladder.{blankAreaKey, otherAreaKey, otherStoredKey};
-ghost use Rattle.forms.specs.Form.{rungsOf, formStatus};
-ghost use Rattle.forms.specs.FormLaws.{decided, wrongReference};
-
-// END.: there is no such record
-const END: u32 = 0x454E442E;
+ghost use Rattle.forms.specs.Form.{rungsOf, formStatus, decided, wrongReference};
 
 // Which tests of its parameters an operation has.
 pub struct Rungs {
@@ -84,24 +83,6 @@ impl Rungs {
     }
 }
 
-// Are the n bytes at `at` of s all blank?
-fn blank_part(s: &[u8], at: usize, n: usize) -> bool
-    requires { ⌜ at + n ≤ length (now s) ⌝ }
-    ensures { λ r. ⌜ r ≡ allBlank (run (now (s .entry)) at n) ⌝ }
-{
-    let to = at + n;
-    octets::all(&s[at..to], 32)
-}
-
-// Are the n bytes at `at` of s the key?
-fn same_part(s: &[u8], at: usize, n: usize, key: &[u8]) -> bool
-    requires { ⌜ at + n ≤ length (now s) ⌝ }
-    ensures { λ r. ⌜ r ≡ sameBytes (run (now (s .entry)) at n) (now (key .entry)) ⌝ }
-{
-    let to = at + n;
-    octets::same(&s[at..to], key)
-}
-
 // Is the key of some path blank in a variable set's area?
 fn blank_path_key(e: Entry, area: &[u8]) -> bool
     requires { ⌜ Fields e ⌝ }
@@ -115,7 +96,8 @@ fn blank_path_key(e: Entry, area: &[u8]) -> bool
     while j < count {
         let p = path_of(e, j);
         let len = p.len as usize;
-        if blank_part(area, at, len) {
+        let key = Key::part(area, at, len);
+        if key.is_blank() {
             return true;
         }
         at += len;
@@ -134,27 +116,31 @@ fn blank_area_key(asked: bool, e: Entry, area: &[u8]) -> bool
         return false;
     }
     if e.kind == 1 {
-        return blank_part(area, 0, e.key as usize);
+        let key = Key::part(area, 0, e.key as usize);
+        return key.is_blank();
     }
     blank_path_key(e, area)
 }
 
 // 10: "ADD-M, WRITM, and for adds the named path's key" differs from the control key.
-fn other_area_key(asked: bool, e: Entry, on: usize, key: &[u8], area: &[u8]) -> bool
+fn other_area_key(asked: bool, e: Entry, on: usize, control: Key, area: &[u8]) -> bool
     requires { ⌜ Fields e ⌝ }
+    requires { ⌜ control .len ≤ 16 ⌝ }
     requires { ⌜ (asked ≡ true → length (now area) ≡ areaLength e) ⌝ }
     requires { ⌜ (isMaster e ≡ false → asked ≡ true → on < e .count) ⌝ }
-    ensures { λ r. ⌜ r ≡ (asked && otherAreaKey e on (now (key .entry)) (now (area .entry))) ⌝ }
+    ensures { λ r. ⌜ r ≡ (asked && otherAreaKey e on (keyOf control) (now (area .entry))) ⌝ }
 {
     if !asked {
         return false;
     }
     if e.kind == 1 {
-        return !same_part(area, 0, e.key as usize, key);
+        let key = Key::part(area, 0, e.key as usize);
+        return !key.same(control);
     }
     let at = areas::area_key_place(e, on);
     let p = path_of(e, on);
-    !same_part(area, at, p.len as usize, key)
+    let key = Key::part(area, at, p.len as usize);
+    !key.same(control)
 }
 
 // 11: has the reference a form that the call does not take?
@@ -163,31 +149,18 @@ fn wrong_reference(q: Rungs, e: Entry, link: u32, reference: u32) -> bool
 {
     let low = reference <= e.records;
     let number = (1 <= reference) & low;
-    let end = reference == END;
+    let end = Reference::end();
     let a = q.link & !((reference == link) | number);
     let b = q.sweep & !low;
-    let c = q.last & end;
+    let c = q.last & (reference == end.0);
     let d = q.number & !number;
     a | (b | (c | d))
 }
 
 // The first test that refuses decides.
-fn decide(
-    area: bool,
-    length: bool,
-    control: bool,
-    blank: bool,
-    other: bool,
-    reference: bool,
-) -> Status
-    ensures { λ r. ⌜ r ≡ decided area length control blank other reference ⌝ }
+fn decide(control: bool, blank: bool, other: bool, reference: bool) -> Status
+    ensures { λ r. ⌜ r ≡ decided control blank other reference ⌝ }
 {
-    if area {
-        return Status::Area;
-    }
-    if length {
-        return Status::Klen;
-    }
     if control {
         return Status::Bctl;
     }
@@ -203,8 +176,22 @@ fn decide(
     Status::Done
 }
 
+// The tests 9 to 11 of a call whose control key has its length; `wrong` is test 11's answer.
+fn key_status(q: Rungs, e: Entry, on: usize, control: Key, area: &[u8], wrong: bool) -> Status
+    requires { ⌜ Fields e ⌝ }
+    requires { ⌜ control .len ≤ 16 ⌝ }
+    requires { ⌜ ((q .blank || q .same) ≡ true → length (now area) ≡ areaLength e) ⌝ }
+    requires { ⌜ (isMaster e ≡ false → q .same ≡ true → on < e .count) ⌝ }
+    ensures { λ s. ⌜ s ≡ decided (allBlank (keyOf control)) (q .blank && blankAreaKey e (now (area .entry))) (q .same && otherAreaKey e on (keyOf control) (now (area .entry))) wrong ⌝ }
+{
+    let empty = control.is_blank();
+    let blank = blank_area_key(q.blank, e, area);
+    let other = other_area_key(q.same, e, on, control, area);
+    decide(empty, blank, other, wrong)
+}
+
 // The tests 7 to 11 of a call on the set e: `on` is the named path's number and `link` its LKxx, `k` the length of the control key.
-// The area's keys are asked for only where the area has its length, so that nothing is read past its end.
+// The control key becomes a key once it has its length, and the area's keys are read once the area has its own.
 pub fn form_status(
     o: Operation,
     e: Entry,
@@ -217,33 +204,23 @@ pub fn form_status(
 ) -> Status
     requires { ⌜ Fields e ⌝ }
     requires { ⌜ (isMaster e ≡ false → rungsOf o .same ≡ true → on < e .count) ⌝ }
+    requires { ⌜ k ≤ 16 ⌝ }
     ensures { λ s. ⌜ s ≡ formStatus o e on link k reference (now (key .entry)) (now (area .entry)) ⌝ }
 {
     let q = Rungs::of(o);
     let fits = area.len() == areas::area_length(e);
-    let length = key.len() != (k as usize);
-    let control = octets::all(key, 32);
-    let blank = blank_area_key(q.blank & fits, e, area);
-    let other = other_area_key(q.same & fits, e, on, key, area);
+    if q.area & !fits {
+        return Status::Area;
+    }
     let wrong = wrong_reference(q, e, link, reference);
-    decide(
-        q.area & !fits,
-        q.key & length,
-        q.key & control,
-        blank,
-        other,
-        wrong,
-    )
-}
-
-// Are the n bytes at `at` of s those at `from` of t?
-fn same_parts(s: &[u8], at: usize, t: &[u8], from: usize, n: usize) -> bool
-    requires { ⌜ at + n ≤ length (now s) ⌝ }
-    requires { ⌜ from + n ≤ length (now t) ⌝ }
-    ensures { λ r. ⌜ r ≡ sameBytes (run (now (s .entry)) at n) (run (now (t .entry)) from n) ⌝ }
-{
-    let end = from + n;
-    same_part(s, at, n, &t[from..end])
+    if !q.key {
+        return decide(false, false, false, wrong);
+    }
+    if key.len() != (k as usize) {
+        return Status::Klen;
+    }
+    let control = Key::of(key);
+    key_status(q, e, on, control, area, wrong)
 }
 
 // "10 for WRITV if an area key differs from the stored one"
@@ -262,7 +239,8 @@ pub fn other_stored_key(base: &[u8], e: Entry, r: RecordNo, area: &[u8]) -> bool
     while j < paths {
         let p = path_of(e, j);
         let len = p.len as usize;
-        if !same_parts(area, at, part, p.at as usize, len) {
+        let key = Key::part(area, at, len);
+        if !key.at(part, p.at as usize) {
             return true;
         }
         at += len;

@@ -1,5 +1,5 @@
 -- Document 01, "Where masters live": homes, the search for a key, and the lowest-numbered free record.
-use Prim.Native.Nat.{ℕ, zero, suc}
+use Prim.Native.Nat.{ℕ, zero, suc, _+_, _-_}
 use mathlib.Core.Bool.{Bool, true, false, cond, not, _&&_}
 use mathlib.Core.List.{List}
 use lib.Dec.{eqb, ltb}
@@ -67,6 +67,10 @@ tailFrom (suc n) b e r = cond (eqb (rootNext b e r) 0) r (tailFrom n b e (rootNe
 -- "the lowest-numbered free record" of a set of either kind; R + 1 where there is none
 unfoldable pub lowestFree : List ℕ → Entry → ℕ
 lowestFree b e = lowestFrom (λ r. not (isLive b e r)) (e .records) 1
+
+-- "the next live one above the reference, 0 to begin", of a set of either kind; R + 1 where there is none
+abbrev pub nextLive : List ℕ → Entry → ℕ → ℕ
+nextLive b e r = lowestFrom (isLive b e) (e .records - r) (r + 1)
 
 -- "no free record in the set"
 abbrev pub isFull : List ℕ → Entry → Bool

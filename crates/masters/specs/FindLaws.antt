@@ -1,14 +1,14 @@
 -- What the search and the scan give: a record that is found is a live record of the set with that key, and the lowest free record is free.
-use Prim.Native.Nat.{ℕ, zero, suc, _≤_, _<_}
+use Prim.Native.Nat.{ℕ, zero, suc}
 use mathlib.Core.Path.{_≡_, refl}
 use mathlib.Core.Bool.{Bool, true, false, cond, not, _&&_, and-eq-true-iff}
 use mathlib.Core.List.{List}
 use mathlib.Core.Logic.{_⊎_, inl, inr, ⊎-elim}
 use native.Mathlib.Omega.{arith}
 use lib.Dec.{eqb, leb}
-use borrow.Author.Tests.{leb-true, ltb-false, not-true, not-false}
+use borrow.Author.Tests.{leb-true, ltb-false, not-true}
 use Rattle.octets.specs.Octets.{sameBytes}
-use Rattle.octets.specs.BelowLaws.{lowestFrom-ge, lowestFrom-at, lowestFrom-below}
+use Rattle.octets.specs.BelowLaws.{lowestFrom-ge, lowestFrom-at}
 use Rattle.octets.specs.RunLaws.{sameBytes-eq}
 use Rattle.terms.specs.declared.RecordNo.{RecordNo}
 use Rattle.schema.specs.declared.Entry.{Entry}
@@ -16,7 +16,7 @@ use Rattle.schema.specs.Place.{InSet, inSet}
 use Rattle.records.specs.Records.{isLive, rootNext, masterKey}
 use Rattle.masters.specs.declared.Found.{Found}
 use Rattle.masters.specs.declared.Found.the-variants.{At, Missing, Damaged}
-use Rattle.masters.specs.Find.{homeIn, heldByOwn, seek, find, lowestFree, isFull}
+use Rattle.masters.specs.Find.{homeIn, heldByOwn, seek, find, tailFrom, lowestFree, isFull}
 
 pub inSet-true : (e : Entry) (r : ℕ) → inSet e r ≡ true → InSet e r
 inSet-true e r h =
@@ -51,6 +51,21 @@ seek-at (suc n) b e key r q h =
     ⊎-elim (λ w. holds-here b e key r q (w .0) (w .1) (w .2)) (λ w. seek-at n b e key (rootNext b e r) q w)
     (step-at (inSet e r && isLive b e r) (sameBytes (masterKey b e r) key) (eqb (rootNext b e r) 0) (record { 0 = r }) q (seek n b e key (rootNext b e r)) h)
 
+-- of a key that is missing the chain's last record is of the set
+step-missing : (s k z : Bool) (r : RecordNo) (more : Found) → cond s (cond k (At r) (cond z Missing more)) Damaged ≡ Missing
+    → (s ≡ true) × ((z ≡ true) ⊎ ((z ≡ false) × (more ≡ Missing)))
+step-missing true true z r more h = absurd (let z : _≡_ {A = ℕ} 0 1 = cc in omega arith)
+step-missing true false true r more h = (refl, inl refl)
+step-missing true false false r more h = (refl, inr (refl, h))
+step-missing false k z r more h = absurd (let z : _≡_ {A = ℕ} 0 1 = cc in omega arith)
+
+pub seek-tail : (n : ℕ) (b : List ℕ) (e : Entry) (key : List ℕ) (r : ℕ) → seek n b e key r ≡ Missing → InSet e (tailFrom n b e r)
+unfolding seek tailFrom
+seek-tail zero b e key r h = absurd (let z : _≡_ {A = ℕ} 0 1 = cc in omega arith)
+seek-tail (suc n) b e key r h =
+    let m = step-missing (inSet e r && isLive b e r) (sameBytes (masterKey b e r) key) (eqb (rootNext b e r) 0) (record { 0 = r }) (seek n b e key (rootNext b e r)) h in
+    ⊎-elim (λ z. rw z (inSet-true e r (and-eq-true-iff (inSet e r) (isLive b e r) .0 (m .0) .0))) (λ z. rw (z .0) (seek-tail n b e key (rootNext b e r) (z .1))) (m .1)
+
 -- "find": what is found is a live master of that key
 from-home : (s : Bool) (m : Found) (q : RecordNo) → cond s m Missing ≡ At q → m ≡ At q
 from-home true m q h = h
@@ -72,7 +87,3 @@ module _ (b : List ℕ) (e : Entry) where
   lowestFree-free h =
       let l = ltb-false (e .records) _ h in
       not-true _ (lowestFrom-at (λ r. not (isLive b e r)) (e .records) 1 (omega arith))
-
-  pub lowestFree-below : (r : ℕ) → 1 ≤ r → r < lowestFree b e → isLive b e r ≡ true
-  unfolding lowestFree
-  lowestFree-below r a l = not-false _ (lowestFrom-below (λ q. not (isLive b e q)) (e .records) 1 r a l)

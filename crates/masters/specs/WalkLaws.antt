@@ -1,14 +1,13 @@
 -- The walk, step by step, is the search: what each step leaves to find, and where the chain ends.
-use Prim.Native.Nat.{ℕ, zero, suc, _+_, _-_, _%_, _≤_, _<_}
+use Prim.Native.Nat.{ℕ, zero, suc, _+_, _-_, _≤_, _<_}
 use mathlib.Core.Path.{_≡_, refl, sym, _∙_}
 use mathlib.Core.Bool.{Bool, true, false, cond, _&&_}
 use mathlib.Core.List.{List}
 use native.Mathlib.Omega.{arith}
-use native.Mathlib.Nat.{mod-lt}
 use native.Mathlib.Numerals.{add-one}
 use lib.Dec.{eqb, ltb}
 use borrow.Author.Tests.{ltb-true, lt-ltb, le-ltb, le-leb, lt-leb}
-use Rattle.octets.specs.Octets.{sameBytes, wordSum}
+use Rattle.octets.specs.Octets.{sameBytes}
 use Rattle.terms.specs.declared.RecordNo.{RecordNo}
 use Rattle.schema.specs.declared.Entry.{Entry}
 use Rattle.schema.specs.Place.{InSet, inSet}
@@ -19,12 +18,8 @@ use Rattle.masters.specs.declared.walk.Walk.{Walk}
 use Rattle.masters.specs.declared.walk.Step.{Step}
 use Rattle.masters.specs.declared.walk.Step.the-variants as S
 use Rattle.masters.specs.Find.{homeIn, heldByOwn, seek, find, tailFrom}
-use Rattle.masters.specs.FindLaws.{inSet-true}
-use Rattle.masters.specs.Walks.{decideOf, stepOf, resolve}
-
--- a home is a record of the set
-pub home-in-set : (e : Entry) (key : List ℕ) → 1 ≤ e .records → InSet e (homeIn e key)
-home-in-set e key h = let m : wordSum key % e .records < e .records = mod-lt (wordSum key) h in (omega arith, omega arith)
+use Rattle.masters.specs.FindLaws.{seek-tail}
+use Rattle.masters.specs.Walks.{decideOf, stepOf, resolve, lastSought}
 
 -- ---- what a step does, by the tests that the code makes
 
@@ -68,13 +63,13 @@ found-by true true true z r u f = refl
 found-by true true false true r u f = refl
 found-by true true false false r u f = refl
 
-absent-by : (a i l s z : Bool) (r : RecordNo) (u : Walk) → tests a i l s z r u ≡ S.Absent → (a ≡ true) × (i ≡ true) × (z ≡ true)
+absent-by : (a i l s z : Bool) (r : RecordNo) (u : Walk) → tests a i l s z r u ≡ S.Absent → (a ≡ true) × (z ≡ true)
 unfolding tests
 absent-by false i l s z r u h = absurd (let k : _≡_ {A = ℕ} 0 1 = cc in omega arith)
 absent-by true false l s z r u h = absurd (let k : _≡_ {A = ℕ} 0 1 = cc in omega arith)
 absent-by true true false s z r u h = absurd (let k : _≡_ {A = ℕ} 0 1 = cc in omega arith)
 absent-by true true true true z r u h = absurd (let k : _≡_ {A = ℕ} 0 1 = cc in omega arith)
-absent-by true true true false true r u h = (refl, refl, refl)
+absent-by true true true false true r u h = (refl, refl)
 absent-by true true true false false r u h = absurd (let k : _≡_ {A = ℕ} 0 1 = cc in omega arith)
 
 next-by : (a i l s z : Bool) (r : RecordNo) (u v : Walk) → tests a i l s z r u ≡ S.Next v → (a ≡ true) × (z ≡ false) × (u ≡ v)
@@ -124,11 +119,11 @@ module _ (b : List ℕ) (e : Entry) (key : List ℕ) (w : Walk) where
   unfolding tailFrom
   tail-of n t h z = rw (h, add-one n, z)
 
-  pub walk-ends : stepOf b e key w ≡ S.Absent → InSet e (w .at) × (tailOn b e w ≡ w .at)
+  pub walk-ends : stepOf b e key w ≡ S.Absent → tailOn b e w ≡ w .at
   walk-ends h =
       let t = absent-by _ _ _ _ _ _ _ (sym by-tests ∙ h) in
       let v = ltb-true (w .visited) (e .records) (t .0) in
-      (inSet-true e (w .at) (t .1), tail-of (e .records - (w .visited + 1)) true (omega arith) (t .2))
+      tail-of (e .records - (w .visited + 1)) true (omega arith) (t .1)
 
   pub walk-goes : (v : Walk) → stepOf b e key w ≡ S.Next v → Onward b e w v
   unfolding ahead
@@ -147,3 +142,10 @@ module _ (b : List ℕ) (e : Entry) (key : List ℕ) where
   pub find-held : heldByOwn b e (homeIn e key) ≡ true → seek (e .records) b e key (homeIn e key) ≡ find b e key
   unfolding find
   find-held h = rw h
+
+  -- behind the record where the search ends a synonym is linked
+  pub synonym-last : find b e key ≡ F.Missing → heldByOwn b e (homeIn e key) ≡ true
+      → (lastSought b e key ≡ tailFrom (e .records) b e (homeIn e key)) × InSet e (lastSought b e key)
+  synonym-last f h =
+      let t = seek-tail (e .records) b e key (homeIn e key) (find-held h ∙ f) in
+      (rw (h, f) refl, rw (h, f) t)

@@ -12,6 +12,7 @@ use Rattle.masters.specs.declared.Found.the-variants as F
 use Rattle.masters.specs.declared.walk.Walk.{Walk}
 use Rattle.masters.specs.declared.walk.Step.{Step}
 use Rattle.masters.specs.declared.walk.Step.the-variants as S
+use Rattle.masters.specs.Find.{homeIn, heldByOwn, find, isMissing, tailFrom}
 
 -- a record that is live or not, has the key or not, and its ROOT next
 unfoldable pub decideOf : Walk → Bool → Bool → ℕ → Step
@@ -35,3 +36,11 @@ resolve f (S.Found r) = F.At r
 resolve f S.Absent = F.Missing
 resolve f S.Damaged = F.Damaged
 resolve f (S.Next w) = f w
+
+-- where the search ends, f being what it finds from h on: a chain without the key it has followed to its last record; else this is h
+abbrev pub lastFrom : Found → List ℕ → Entry → ℕ → ℕ
+lastFrom f b e h = cond (isMissing f) (tailFrom (e .records) b e h) h
+
+-- and from the home of the key; where that is not held by one of its own, nothing is followed
+abbrev pub lastSought : List ℕ → Entry → List ℕ → ℕ
+lastSought b e key = cond (heldByOwn b e (homeIn e key)) (lastFrom (find b e key) b e (homeIn e key)) (homeIn e key)

@@ -9,15 +9,13 @@ use schema::Entry;
 use terms::Key;
 use terms::RecordNo;
 ghost use mathlib.Core.Path.{_≡_};
-ghost use mathlib.Core.Bool.{true};
 ghost use Prim.Native.Nat.{_<_, _≤_};
 ghost use lib.ListN.{length};
 ghost use Rattle.terms.specs.Terms.{keyOf};
 ghost use Rattle.schema.specs.Place.{InSet, LiesIn};
 ghost use Rattle.schema.specs.Guarantee.{MasterOk};
-ghost use Rattle.masters.specs.declared.Found.the-variants.{Missing};
-ghost use Rattle.masters.specs.Find.{homeIn, ownHome, heldByOwn, seek, find, tailFrom};
-ghost use Rattle.masters.specs.Walks.{decideOf, stepOf};
+ghost use Rattle.masters.specs.Find.{ownHome, heldByOwn, seek, find};
+ghost use Rattle.masters.specs.Walks.{decideOf, stepOf, lastFrom, lastSought};
 
 // Where the walk stands: the pointer that it came by, a plain word until it is tested against R, and the records visited before it.
 pub struct Walk {
@@ -33,7 +31,7 @@ pub enum Step {
     Next(Walk),
 }
 
-// What the search found, and the last record that it met: behind that one a synonym is linked, so the chain is walked once.
+// What the search found, and the record where it ends: behind that one a synonym is linked, so the chain is walked once.
 pub struct Sought {
     pub found: Found,
     pub last: RecordNo,
@@ -116,8 +114,7 @@ fn seek_from(base: &[u8], e: Entry, k: Key, h: RecordNo) -> Sought
     requires { ⌜ InSet e (h .0) ⌝ }
     requires { ⌜ k .len ≡ e .key ⌝ }
     ensures { λ s. ⌜ s .found ≡ seek (e .records) (now (base .entry)) e (keyOf k) (h .0) ⌝ }
-    ensures { λ s. ⌜ InSet e (s .last .0) ⌝ }
-    ensures { λ s. ⌜ (s .found ≡ Missing → s .last .0 ≡ tailFrom (e .records) (now (base .entry)) e (h .0)) ⌝ }
+    ensures { λ s. ⌜ s .last .0 ≡ lastFrom (s .found) (now (base .entry)) e (h .0) ⌝ }
 {
     let mut w = Walk {
         at: h.0,
@@ -157,8 +154,7 @@ pub fn find(base: &[u8], e: Entry, k: Key) -> Sought
     requires { ⌜ 1 ≤ e .records ⌝ }
     requires { ⌜ k .len ≡ e .key ⌝ }
     ensures { λ s. ⌜ s .found ≡ find (now (base .entry)) e (keyOf k) ⌝ }
-    ensures { λ s. ⌜ InSet e (s .last .0) ⌝ }
-    ensures { λ s. ⌜ (s .found ≡ Missing → heldByOwn (now (base .entry)) e (homeIn e (keyOf k)) ≡ true → s .last .0 ≡ tailFrom (e .records) (now (base .entry)) e (homeIn e (keyOf k))) ⌝ }
+    ensures { λ s. ⌜ s .last .0 ≡ lastSought (now (base .entry)) e (keyOf k) ⌝ }
 {
     let h = k.home(e.records);
     if !held_by_own(base, e, h) {

@@ -1,5 +1,5 @@
 -- What a set's paths must be for their names to be read, that every set of a schema has it, and the two words of a name.
-use Prim.Native.Nat.{ℕ, _<_, _≤_}
+use Prim.Native.Nat.{ℕ, _<_}
 use mathlib.Core.Path.{_≡_, refl, sym, ap, _∙_}
 use mathlib.Core.Bool.{Bool, true, false}
 use mathlib.Core.List.{List, [], _∷_, _++_}
@@ -13,22 +13,10 @@ use Rattle.octets.specs.RunLaws.{tests-eq, sameBytes-eq, eq-sameBytes, ne-sameB
 use Rattle.octets.specs.WordLaws.{word4-bytes, bytes-word4}
 use Rattle.octets.specs.Text.{text}
 use Rattle.terms.specs.Terms.{linkRef}
-use Rattle.schema.specs.declared.Path.{Path}
-use Rattle.schema.specs.declared.Entry.{Entry}
 use Rattle.schema.specs.declared.Schema.{Schema}
-use Rattle.schema.specs.Decode.{entryOf, pathOf, setCount}
+use Rattle.schema.specs.Decode.{entryOf, setCount}
 use Rattle.schema.specs.Guarantee.{SchemaOk}
-
--- the path has its two letters and leads to an entry
-pub record Named (t : Schema) (p : Path) : Type 0 where
-  pub master : p .master .0 < 8
-  pub letters : length (p .letters) ≡ 2
-  pub eight : length (t .entries) ≡ 8
-
-pub record OnMasters (t : Schema) (e : Entry) : Type 0 where
-  pub few : e .count ≤ 4
-  pub four : length (e .paths) ≡ 4
-  pub named : (j : ℕ) → j < e .count → Named t (pathOf e j)
+use Rattle.names.specs.Names.{OnMasters}
 
 -- every set of a schema is so: a master has no paths, and a variable's lead to masters
 pub on-masters : (t : Schema) → SchemaOk t → (i : ℕ) → i < setCount t → OnMasters t (entryOf t i)

@@ -4,56 +4,20 @@ use schema::Path;
 use schema::Schema;
 use schema::layout;
 use terms::EntryNo;
-use terms::Reference;
 ghost use mathlib.Core.Path.{_≡_};
-ghost use Prim.Native.Nat.{_%_, _<_};
 ghost use lib.ListN.{length};
 ghost use Rattle.octets.specs.Octets.{sameBytes};
-ghost use Rattle.terms.specs.Terms.{linkRef};
 ghost use Rattle.schema.specs.Guarantee.{SchemaOk};
-ghost use Rattle.schema.specs.Decode.{setCount};
-ghost use Rattle.calls.specs.Scene.{setNamed, pathName, pathNamed};
-ghost use Rattle.names.specs.NameLaws.{OnMasters, Named};
-
-// How many sets the schema has.
-pub fn sets(t: Schema) -> usize
-    ensures { λ n. ⌜ n ≡ setCount t ⌝ }
-{
-    (t.masters as usize) + (t.variables as usize)
-}
-
-// The number of the i-th entry: there are eight at most.
-pub fn entry_number(i: usize) -> EntryNo
-    ensures { λ n. ⌜ n .0 ≡ i % 256 ⌝ }
-{
-    EntryNo((i % 256) as u8)
-}
+ghost use Rattle.schema.specs.Naming.{setNamed, pathName, pathNamed};
+ghost use Rattle.names.specs.Names.{OnMasters, Named};
 
 // The number of the set of that name; the number of sets where there is none.
-pub fn set_named(t: Schema, name: &[u8]) -> usize
+pub fn set_named(t: Schema, name: &[u8]) -> EntryNo
     requires { ⌜ SchemaOk t ⌝ }
     requires { ⌜ length (now name) ≡ 4 ⌝ }
-    ensures { λ i. ⌜ i ≡ setNamed t (now (name .entry)) ⌝ }
+    ensures { λ n. ⌜ n .0 ≡ setNamed t (now (name .entry)) ⌝ }
 {
-    let wanted = octets::word(name, 0);
-    let n = sets(t);
-    let mut i: usize = 0;
-    while i < n {
-        let e = t.entries[i];
-        if e.name == wanted {
-            return i;
-        }
-        i += 1;
-    }
-    n
-}
-
-// LKxx of the letters a and b, which by value bring their bounds.
-fn link_of(a: u8, b: u8) -> u32
-    ensures { λ r. ⌜ (r ≡ linkRef a b) × (a < 256) × (b < 256) ⌝ }
-{
-    let link = Reference::link(a, b);
-    link.0
+    layout::set_of(t, octets::word(name, 0))
 }
 
 // "The path is named mmmmLKxx, mmmm the master.": is that the name? Its two words are the master's name and the path's LKxx.
@@ -70,9 +34,8 @@ fn is_named(t: Schema, p: Path, name: &[u8]) -> bool
     if master != mmmm {
         return false;
     }
-    let a = p.letters[0];
-    let b = p.letters[1];
-    octets::word(name, 4) == link_of(a, b)
+    let link = p.reference();
+    octets::word(name, 4) == link.0
 }
 
 // The number of the path of that name in the set; its path count where there is none.

@@ -3,20 +3,17 @@ use mathlib.Core.Path.{_≡_, refl, sym, ap, _∙_}
 use mathlib.Core.Bool.{Bool, true, false, cond, _&&_, and-eq-true-iff}
 use mathlib.Core.List.{List, [], _∷_, _++_}
 use mathlib.Core.Logic.{_⊎_, inl, inr}
-use Prim.Native.Nat.{ℕ, zero, suc, _+_, _≤_, _<_}
+use Prim.Native.Nat.{ℕ, zero, suc, _+_, _-_, _≤_, _<_}
 use native.Mathlib.Omega.{arith}
 use native.Mathlib.Nat.{eq-or-lt-of-le}
 use native.Mathlib.Numerals.{add-one}
 use lib.Dec.{eqb}
-use lib.ListN.{length, getD, take, set, length-append, List·getD-append}
-use lib.Seq.{take-suc-set, take-all, getD-at}
+use lib.ListN.{length, getD, take, drop, set, length-append, List·getD-append}
+use lib.Seq.{take-suc-set, drop-set-lt, drop-drop, getD-at}
 use borrow.Author.Tests.{eqb-true, eqb-false}
+use Rattle.octets.specs.TestLaws.{never-both}
 use Rattle.octets.specs.Below.{allBelow, sumBelow, countBelow, lowestFrom, upto, concatBelow}
 use Rattle.octets.specs.RunLaws.{refuted}
-
--- no test is both
-pub never-both : (t : Bool) → t ≡ true → t ≡ false → ⊥
-never-both t p q = let z : _≡_ {A = ℕ} 0 1 = cc in omega arith
 
 -- two numbers are the same, or they are not
 pub same? : (m n : ℕ) → (m ≡ n) ⊎ (m ≡ n → ⊥)
@@ -110,25 +107,12 @@ module _ (f : ℕ → Bool) where
   lowestFrom-at (suc n) k l =
       cond-both (λ r. r < k + suc n → f r ≡ true) (f k) k (lowestFrom f n (k + 1)) (λ e m. e) (λ e m. lowestFrom-at n (k + 1) (omega arith)) l
 
-  -- and of no lower one
-  pub lowestFrom-below : (n k i : ℕ) → k ≤ i → i < lowestFrom f n k → f i ≡ false
-  unfolding lowestFrom
-  lowestFrom-below zero k i h l = absurd (omega arith)
-  lowestFrom-below (suc n) k i h l =
-      cond-both (λ r. i < r → f i ≡ false) (f k) k (lowestFrom f n (k + 1)) (λ e m. absurd (omega arith))
-      (λ e m. last? h (λ p. rw p at e) (λ p. lowestFrom-below n (k + 1) i (omega arith) m)) l
-
   pub lowestFrom-first : (n k i : ℕ) → k ≤ i → f i ≡ true → i < k + n → lowestFrom f n k ≤ i
   unfolding lowestFrom
   lowestFrom-first zero k i h e l = absurd (omega arith)
   lowestFrom-first (suc n) k i h e l =
       cond-both (λ r. r ≤ i) (f k) k (lowestFrom f n (k + 1)) (λ _. h)
       (λ d. last? h (λ p. absurd (never-both (f i) e (rw p at d))) (λ p. lowestFrom-first n (k + 1) i (omega arith) e (omega arith)))
-
-pub lowestFrom-same : (f g : ℕ → Bool) (n k : ℕ) → ((i : ℕ) → k ≤ i → i < k + n → f i ≡ g i) → lowestFrom f n k ≡ lowestFrom g n k
-unfolding lowestFrom
-lowestFrom-same f g zero k h = refl
-lowestFrom-same f g (suc n) k h = rw (h k (omega arith) (omega arith), lowestFrom-same f g n (k + 1) (λ i p q. h i (omega arith) (omega arith))) refl
 
 -- ---- sumBelow
 
@@ -172,11 +156,6 @@ unfolding countBelow
 countBelow-at f i zero l h = absurd (omega arith)
 countBelow-at f i (suc n) l h = last? {i = i} {n = n} (omega arith) (λ k. rw (k, rw k at h) (omega arith)) (λ k. omega (arith, countBelow-at f i n k h))
 
-pub countBelow-same : (f g : ℕ → Bool) (n : ℕ) → ((i : ℕ) → i < n → f i ≡ g i) → countBelow f n ≡ countBelow g n
-unfolding countBelow
-countBelow-same f g zero h = refl
-countBelow-same f g (suc n) h = rw (countBelow-same f g n (λ i l. h i (omega arith)), h n (omega arith)) refl
-
 -- ---- upto
 
 module _ {ℓ} {A : Type ℓ} (f : ℕ → A) where
@@ -195,14 +174,15 @@ module _ {ℓ} {A : Type ℓ} (f : ℕ → A) where
   pub fill-step : (xs : List A) (j : ℕ) (v : A) → j < length xs → take j xs ≡ upto f j → v ≡ f j → take (j + 1) (set xs j v) ≡ upto f (j + 1)
   fill-step xs j v h e q = rw (add-one, take-suc-set xs j v, e, q)
 
-  pub fill-done : (xs : List A) (n j : ℕ) → j ≤ n → n ≤ j → length xs ≡ n → take j xs ≡ upto f j → xs ≡ upto f n
-  fill-done xs n j a b l e =
-      let q : j ≡ n = omega arith in
-      sym (take-all n xs (omega arith)) ∙ (rw q at e)
+-- two lists that agree from n on agree from any later place on
+pub drop-later {ℓ} : {A : Type ℓ} (xs ys : List A) (n m : ℕ) → n ≤ m → drop n xs ≡ drop n ys → drop m xs ≡ drop m ys
+drop-later xs ys n m h e =
+    let k : n + (m - n) ≡ m = omega arith in
+    rw (← k, ← drop-drop (m - n) n xs, ← drop-drop (m - n) n ys, e) refl
 
-pub upto-same {ℓ} : {A : Type ℓ} (f g : ℕ → A) (n : ℕ) → ((i : ℕ) → i < n → f i ≡ g i) → upto f n ≡ upto g n
-upto-same f g zero h = refl
-upto-same f g (suc n) h = rw (upto-same f g n (λ i l. h i (omega arith)), h n (omega arith)) refl
+-- behind what such a loop stores the list stays
+pub rest-step {ℓ} : {A : Type ℓ} (xs ys : List A) (j : ℕ) (v : A) → drop j xs ≡ drop j ys → drop (j + 1) (set xs j v) ≡ drop (j + 1) ys
+rest-step xs ys j v e = drop-set-lt (j + 1) xs j v (omega arith) ∙ drop-later xs ys j (j + 1) (omega arith) e
 
 -- ---- lists one behind the other
 

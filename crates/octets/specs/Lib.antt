@@ -4,5 +4,6 @@ pub mod Below
 pub mod SpliceLaws
 pub mod WordLaws
 pub mod RunLaws
+pub mod TestLaws
 pub mod BelowLaws
 pub mod Cases

@@ -1,11 +1,11 @@
 -- The laws of `splice` and `run`: what a store changes and what it leaves.
 use mathlib.Core.Path.{_≡_, refl, sym, ap, _∙_}
-use mathlib.Core.List.{List, [], _∷_, _++_}
+use mathlib.Core.List.{List, [], _∷_, _++_, append-nil}
 use Prim.Native.Nat.{ℕ, zero, suc, _+_, _-_, _≤_, _<_}
 use native.Mathlib.Omega.{arith}
 use native.Mathlib.Numerals.{add-one}
 use lib.ListN.{length, getD, set, take, drop, replicate, length-set, length-take, length-drop, length-replicate, replicate-append-replicate}
-use lib.Seq.{length-take-le, take-suc, take-length, take-take, drop-cons, drop-drop, getD-take, getD-drop, getD-set-same, getD-set-other, set-comm, set-set, set-getD, take-set-le, take-set-lt, drop-set-lt, drop-set-add, sets, sets-eq, ext-getD}
+use lib.Seq.{length-take-le, take-suc, take-length, take-take, drop-cons, drop-drop, getD-take, getD-drop, getD-set-same, getD-set-other, set-comm, set-set, set-getD, take-set-le, take-set-lt, drop-set-lt, drop-set-add, sets, sets-eq, ext-getD, drop-length}
 use borrow.Rule.Slice.PartMut.{putMid, put-same}
 use Rattle.octets.specs.Octets.{Bytes, Apart, run, splice, zeros}
 
@@ -103,14 +103,6 @@ splice-set xs a [] j v h = refl
 splice-set xs a (y ∷ ys) j v h =
     rw (set-comm xs j a v y (λ e. h (omega arith) (omega arith))) (splice-set (set xs a y) (a + 1) ys j v (λ p q. h (omega arith) (omega arith)))
 
--- two runs that are apart commute
-pub splice-comm : (xs : List ℕ) (a : ℕ) (ys : List ℕ) (b : ℕ) (zs : List ℕ) → Apart a (length ys) b (length zs)
-    → splice (splice xs a ys) b zs ≡ splice (splice xs b zs) a ys
-unfolding splice
-splice-comm xs a ys b [] h = refl
-splice-comm xs a ys b (z ∷ zs) h =
-    rw (← splice-set xs a ys b z (λ p q. h (omega arith) (omega arith))) (splice-comm (set xs b z) a ys (b + 1) zs (λ p q. h (omega arith) (omega arith)))
-
 -- a later run at the same place covers an earlier one that is no longer
 pub splice-splice : (xs : List ℕ) (a : ℕ) (ys zs : List ℕ) → length ys ≤ length zs → splice (splice xs a ys) a zs ≡ splice xs a zs
 unfolding splice
@@ -118,15 +110,6 @@ splice-splice xs a [] zs h = refl
 splice-splice xs a (y ∷ ys) [] h = absurd (omega arith)
 splice-splice xs a (y ∷ ys) (z ∷ zs) h =
     rw (← splice-set (set xs a y) (a + 1) ys a z (λ p q. omega arith), set-set xs a y z) (splice-splice (set xs a z) (a + 1) ys zs (omega arith))
-
--- the same where the later run begins d places lower
-pub splice-over : (xs : List ℕ) (a d : ℕ) (ys zs : List ℕ) → d + length ys ≤ length zs → splice (splice xs (a + d) ys) a zs ≡ splice xs a zs
-unfolding splice
-splice-over xs a zero ys zs h = let e : a + 0 ≡ a = omega arith in rw e (splice-splice xs a ys zs (omega arith))
-splice-over xs a (suc d) ys [] h = absurd (omega arith)
-splice-over xs a (suc d) ys (z ∷ zs) h =
-    let e : a + suc d ≡ a + 1 + d = omega arith in
-    rw (e, ← splice-set xs (a + 1 + d) ys a z (λ p q. omega arith)) (splice-over (set xs a z) (a + 1) d ys zs (omega arith))
 
 -- storing what stands there changes nothing
 pub splice-run-id : (xs : List ℕ) (a n : ℕ) → a + n ≤ length xs → splice xs a (run xs a n) ≡ xs
@@ -225,7 +208,7 @@ pub bytes-zeros : (n : ℕ) → Bytes (zeros n)
 bytes-zeros n i = rw getD-zeros (omega arith)
 
 -- a run of zeros is zeros
-drop-zeros : (a n m : ℕ) → n ≡ a + m → drop a (zeros n) ≡ zeros m
+pub drop-zeros : (a n m : ℕ) → n ≡ a + m → drop a (zeros n) ≡ zeros m
 drop-zeros zero n m h = let e : n ≡ m = omega arith in ap zeros e
 drop-zeros (suc a) zero m h = absurd (omega arith)
 drop-zeros (suc a) (suc n) m h = drop-zeros a n m (omega arith)
@@ -237,3 +220,13 @@ take-zeros (suc m) (suc n) h = ap (λ (xs : List ℕ). 0 ∷ xs) (take-zeros m n
 
 pub run-zeros : (n a m : ℕ) → a + m ≤ n → run (zeros n) a m ≡ zeros m
 run-zeros n a m h = rw (drop-zeros a n (n - a) (omega arith)) (take-zeros m (n - a) (omega arith))
+
+-- all of a list stored anew
+pub splice-whole : (xs ys : List ℕ) → length ys ≡ length xs → splice xs 0 ys ≡ ys
+splice-whole xs ys h =
+    let e : 0 + length ys ≡ length xs = omega arith in
+    splice-eq xs 0 ys (omega arith) ∙ (rw (e, drop-length xs) (append-nil ys))
+
+-- a run stored behind another: the two are one
+pub splice-join : (xs : List ℕ) (a : ℕ) (ys : List ℕ) (n : ℕ) (zs : List ℕ) → a + length ys ≡ n → splice (splice xs a ys) n zs ≡ splice xs a (ys ++ zs)
+splice-join xs a ys n zs h = rw (← h) (sym (splice-append xs a ys zs))

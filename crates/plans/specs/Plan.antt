@@ -1,10 +1,10 @@
 -- Document 01, "Chains": "All reading and testing precedes storing." What a call stores is a list of runs of bytes, computed from the
 -- data base as it came; a store goes into one record, so into one block.
-use Prim.Native.Nat.{ℕ, zero, suc, _+_, _*_, _/_}
+use Prim.Native.Nat.{ℕ, zero, suc, _+_, _*_}
 use mathlib.Core.Bool.{Bool, true, _&&_}
 use mathlib.Core.List.{List, [], _∷_}
 use Rattle.octets.specs.Octets.{splice, wordBytes, zeros}
-use Rattle.blocks.specs.Blocks.{isSealed, seal}
+use Rattle.blocks.specs.Blocks.{blockWith, isSealed, seal}
 use Rattle.schema.specs.declared.Entry.{Entry}
 use Rattle.schema.specs.Place.{placeOf}
 
@@ -28,7 +28,7 @@ wipeRecord e r = storeRecord e r (zeros (e .size))
 
 -- the block that a store goes into
 abbrev pub storeBlock : Store → ℕ
-storeBlock x = x .at / 512
+storeBlock x = blockWith (x .at)
 
 -- "a block to be stored into has a false check" is damage: this is the opposite
 unfoldable pub blocksSealed : List ℕ → List Store → Bool

@@ -13,15 +13,7 @@ use Rattle.octets.specs.SpliceLaws.{length-splice, bytes-splice, run-splice-out
 use Rattle.blocks.specs.Blocks.{blockAt, checkAt, isSealed, seal}
 use Rattle.blocks.specs.Laws.{length-seal, bytes-seal, run-seal, getD-seal, isSealed-splice, isSealed-seal, isSealed-seal-other}
 use Rattle.plans.specs.Plan.{Store, storeBlock, storeAll, sealAll, committed, sealBelow, formatted}
-
--- a store lies in front of the check of its block, and the block lies within n bytes
-pub record Fits (n : ℕ) (x : Store) : Type 0 where
-  pub inside : x .at + length (x .bytes) ≤ checkAt (storeBlock x)
-  pub whole : blockAt (storeBlock x) + 512 ≤ n
-
-abbrev pub AllFit : ℕ → List Store → Type 0
-AllFit n [] = Unit {0}
-AllFit n (x ∷ xs) = Fits n x × AllFit n xs
+use Rattle.plans.specs.PlanOk.{Fits, AllFit}
 
 -- every store is of bytes
 abbrev pub AllBytes : List Store → Type 0

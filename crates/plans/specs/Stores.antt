@@ -1,12 +1,13 @@
 -- The stores that a plan stands for, in document 01's order: "moved record, then new record; then path by path (ROOT as one path) prior's
 -- side, next's side; then wiping". `b` is the data base as it came, `e` the call's set, `area` its area.
-use Prim.Native.Nat.{ℕ}
+use Prim.Native.Nat.{ℕ, _+_}
 use mathlib.Core.Bool.{cond}
 use mathlib.Core.List.{List, [], _∷_, _++_}
 use lib.Dec.{eqb}
 use lib.ListN.{take, getD}
 use Rattle.octets.specs.Octets.{wordBytes, setWord}
 use Rattle.schema.specs.declared.Entry.{Entry}
+use Rattle.schema.specs.declared.Part.{Part}
 use Rattle.schema.specs.Place.{recordOf}
 use Rattle.records.specs.declared.Link.{Link}
 use Rattle.records.specs.Areas.{areaBody, noLink, newMaster, newVariable}
@@ -20,8 +21,12 @@ use Rattle.plans.specs.Plan.{Store, storeRun, storeRecord, wipeRecord}
 abbrev pub wordsOf : Plan → List Word
 wordsOf p = take (p .count) (p .words)
 
+-- the word at `o` of the record that is the part p becomes v
+abbrev pub wordIn : Part → ℕ → ℕ → Word
+wordIn p o v = record { at = p .at; size = p .size; offset = o; value = v }
+
 abbrev pub wordStore : Word → Store
-wordStore w = record { at = w .at; bytes = wordBytes (w .value) }
+wordStore w = record { at = w .at + w .offset; bytes = wordBytes (w .value) }
 
 unfoldable pub wordStores : List Word → List Store
 wordStores [] = []

@@ -1,16 +1,19 @@
 // What a call stores: a plan, made while reading, from the data base as it came. The room `commit` stores all of it, or nothing.
 use records::Link;
+use schema::Part;
 use terms::RecordNo;
 use terms::Status;
 ghost use mathlib.Core.Path.{_≡_};
 ghost use mathlib.Core.List.{_++_, _∷_, []};
-ghost use Prim.Native.Nat.{_+_, _<_};
-ghost use Rattle.plans.specs.Stores.{wordsOf};
-ghost use Rattle.plans.specs.BodyLaws.{BodyPlan};
+ghost use Prim.Native.Nat.{_<_};
+ghost use Rattle.plans.specs.Stores.{wordsOf, wordIn};
+ghost use Rattle.plans.specs.Made.{headPlan, withWord, withWiped, refusedBy, bodyPlanned};
 
-// A linkage field's place in the data base, and what it becomes.
+// A linkage field of a record, and what it becomes. The record is a part of the data base.
 pub struct Word {
-    pub at: u32,
+    pub at: u32, // where the record begins
+    pub size: u16, // L, its length
+    pub offset: u16, // where the field stands in it
     pub value: u32,
 }
 
@@ -49,12 +52,31 @@ pub struct Planned {
     pub plan: Plan,
 }
 
+impl Word {
+    // The field at `offset` of the record that is the part becomes `value`.
+    pub fn of(part: Part, offset: u16, value: u32) -> Word
+        ensures { λ w. ⌜ w ≡ wordIn part offset value ⌝ }
+    {
+        Word {
+            at: part.at,
+            size: part.size,
+            offset,
+            value,
+        }
+    }
+}
+
 impl Plan {
     // Nothing but a head.
     pub fn of(head: Head, target: RecordNo, other: RecordNo, links: [Link; 4]) -> Plan
-        ensures { λ p. ⌜ (p .head ≡ head) × (p .target ≡ target) × (p .other ≡ other) × (p .links ≡ links) × (p .count ≡ 0) × (wordsOf p ≡ []) × (p .wiped ≡ 0) ⌝ }
+        ensures { λ p. ⌜ p ≡ headPlan head target other links ⌝ }
     {
-        let words = [Word { at: 0, value: 0 }; 8];
+        let words = [Word {
+            at: 0,
+            size: 0,
+            offset: 0,
+            value: 0,
+        }; 8];
         Plan {
             head,
             target,
@@ -67,20 +89,21 @@ impl Plan {
     }
 
     // One more word, behind the others.
-    pub fn with_word(self, at: u32, value: u32) -> Plan
+    pub fn with_word(self, w: Word) -> Plan
         requires { ⌜ self .count < 8 ⌝ }
-        ensures { λ p. ⌜ (p .head ≡ self .head) × (p .target ≡ self .target) × (p .other ≡ self .other) × (p .links ≡ self .links) × (p .count ≡ self .count + 1) × (wordsOf p ≡ wordsOf self ++ (record { at = at; value = value } ∷ [])) × (p .wiped ≡ self .wiped) ⌝ }
+        ensures { λ p. ⌜ p ≡ withWord self w ⌝ }
+        ensures { λ p. ⌜ wordsOf p ≡ wordsOf self ++ (w ∷ []) ⌝ }
     {
         let mut p = self;
         let i = p.count;
-        p.words[i] = Word { at, value };
+        p.words[i] = w;
         p.count = i + 1;
         p
     }
 
     // And a record that is wiped in the end.
     pub fn with_wiped(self, r: RecordNo) -> Plan
-        ensures { λ p. ⌜ (p .head ≡ self .head) × (p .target ≡ self .target) × (p .other ≡ self .other) × (p .links ≡ self .links) × (p .count ≡ self .count) × (wordsOf p ≡ wordsOf self) × (p .wiped ≡ r .0) ⌝ }
+        ensures { λ p. ⌜ p ≡ withWiped self (r .0) ⌝ }
     {
         let mut p = self;
         p.wiped = r.0;
@@ -90,7 +113,7 @@ impl Plan {
 
 // A refusal: nothing is to be stored.
 pub fn refused(status: Status) -> Planned
-    ensures { λ q. ⌜ q .status ≡ status ⌝ }
+    ensures { λ q. ⌜ q ≡ refusedBy status ⌝ }
 {
     let none = [Link { prior: 0, next: 0 }; 4];
     let plan = Plan::of(Head::Nothing, RecordNo(0), RecordNo(0), none);
@@ -99,7 +122,7 @@ pub fn refused(status: Status) -> Planned
 
 // WRITM's and WRITV's plan: the D bytes of the area go into the record r.
 pub fn body_plan(r: RecordNo) -> Planned
-    ensures { λ q. ⌜ BodyPlan q (r .0) ⌝ }
+    ensures { λ q. ⌜ q ≡ bodyPlanned r ⌝ }
 {
     let none = [Link { prior: 0, next: 0 }; 4];
     let plan = Plan::of(Head::Body, r, RecordNo(0), none);

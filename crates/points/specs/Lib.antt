@@ -1,8 +1,3 @@
-pub mod Rest
-pub mod Paths
-pub mod VariableIn
-pub mod PathLaws
-pub mod DamageLaws
-pub mod PlanLaws
+pub mod Chains
+pub mod Points
 pub mod SideLaws
-pub mod CallLaws

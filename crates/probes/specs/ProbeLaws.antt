@@ -1,10 +1,8 @@
 -- The ways through the C entries, in the words of what the code read.
-use Prim.Native.Nat.{ℕ, _%_, _≤_, _<_}
+use Prim.Native.Nat.{ℕ, _≤_, _<_}
 use mathlib.Core.Path.{_≡_, refl, sym, _∙_, ap}
 use mathlib.Core.Bool.{true, false, and-false}
 use mathlib.Core.List.{List}
-use native.Mathlib.Omega.{arith}
-use native.Mathlib.Nat.{mod-eq-of-lt}
 use lib.Dec.{leb}
 use lib.ListN.{length}
 use borrow.Author.Tests.{lt-ltb, le-ltb, le-leb, lt-leb, eq-eqb, ne-eqb}
@@ -79,19 +77,12 @@ module _ (t : Schema) (i r : ℕ) where
   unfolding placeUnder
   under-some h = rw (lt-ltb i (setCount t) h) refl
 
--- an entry's number fits its byte, so the set that is looked up by the byte is the one that was asked for
-module _ (t : Schema) (i : ℕ) (ok : SchemaOk t) (h : i < setCount t) {e : Entry} (q : e ≡ entryOf t (i % 256)) where
-  by-byte : e ≡ entryOf t i
-  by-byte =
-      let m = ok .few-masters in
-      let v = ok .few-variables in
-      q ∙ ap (entryOf t) (mod-eq-of-lt (omega arith))
-
+module _ (t : Schema) (i : ℕ) (ok : SchemaOk t) (h : i < setCount t) {e : Entry} (q : e ≡ entryOf t i) where
   pub lies-found : LiesIn e 2097152
-  lies-found = rw by-byte (lies-most (lies i ok h refl))
+  lies-found = rw q (lies-most (lies i ok h refl))
 
   pub under-found : (r : ℕ) {v : ℕ} → v ≡ placeInSet e r → v ≡ placeUnder t i r
-  under-found r k = k ∙ ap (λ (x : Entry). placeInSet x r) by-byte ∙ under-some t i r h
+  under-found r k = k ∙ ap (λ (x : Entry). placeInSet x r) q ∙ under-some t i r h
 
 -- ---- one block
 

@@ -48,7 +48,7 @@ fn place_under(t: Schema, entry: u32, number: u32) -> u64
     if sets <= entry {
         return NOWHERE;
     }
-    let e = layout::entry_of(t, EntryNo((entry % 256) as u8));
+    let e = layout::entry_of(t, EntryNo(entry as u8));
     place_in_set(e, number)
 }
 

@@ -1,6 +1,6 @@
 -- Where addresses lie: each inside its record, in front of its block's check, and no two on one another. Two addresses differ by their set, by
 -- their record or by their field, and each of the three keeps them apart.
-use Prim.Native.Nat.{ℕ, _+_, _*_, _/_, _≤_, _<_}
+use Prim.Native.Nat.{ℕ, _+_, _*_, _≤_, _<_}
 use mathlib.Core.Path.{_≡_, refl, ap}
 use mathlib.Core.Logic.{_≢_}
 use mathlib.Core.Bool.{false}
@@ -9,12 +9,12 @@ use native.Mathlib.Decide.{ℕ-discrete}
 use borrow.Author.Tests.{eqb-false}
 use lib.Dec.{eqb}
 use Rattle.octets.specs.Octets.{Apart}
-use Rattle.blocks.specs.Blocks.{blockAt, checkAt}
+use Rattle.blocks.specs.Blocks.{checkAt}
 use Rattle.schema.specs.declared.Schema.{Schema}
 use Rattle.schema.specs.Decode.{entryOf, setCount}
-use Rattle.schema.specs.Place.{InSet, blockOf, placeOf, LiesIn}
+use Rattle.schema.specs.Place.{InSet, placeOf, LiesIn}
 use Rattle.schema.specs.Guarantee.{SchemaOk}
-use Rattle.schema.specs.PlaceLaws.{place-in-block, place-inside, block-of-place}
+use Rattle.schema.specs.PlaceLaws.{place-in-block, place-inside}
 use Rattle.schema.specs.GuaranteeLaws.{lies, places-apart}
 use Rattle.records.specs.Address.{Field, state, root-next, root-prior, own-key, body, key, prior, next, first, last, Address, offsetOf, sizeOf, HasField, IsAddress, addressAt, addressSize}
 use Rattle.records.specs.FieldPlaces.{field-inside, fields-apart}
@@ -64,17 +64,9 @@ module _ {t : Schema} (n r o m : ℕ) (ok : SchemaOk t) (h : Inside t n r o m) w
   pub inside-base : placeOf (entryOf t n) r + o + m ≤ 512 * t .blocks
   inside-base = omega (arith, place-inside r in-base (h .1))
 
-  -- they lie in the record's block
-  pub inside-block : (placeOf (entryOf t n) r + o) / 512 ≡ blockOf (entryOf t n) r
-  inside-block = block-of-place r o in-base (omega arith)
-
   -- they touch no check
   pub inside-off-checks : (k : ℕ) → Apart (checkAt k) 4 (placeOf (entryOf t n) r + o) m
   inside-off-checks k p q = omega (arith, place-in-block r in-base)
-
-  -- they touch no other block
-  pub inside-off-blocks : (k : ℕ) → k ≢ blockOf (entryOf t n) r → Apart (placeOf (entryOf t n) r + o) m (blockAt k) 512
-  inside-off-blocks k d p q = d (omega (arith, place-in-block r in-base))
 
   -- they touch no other record
   pub inside-off-records : (k q : ℕ) → k < setCount t → InSet (entryOf t k) q → ((k ≡ n) × (q ≡ r) → ⊥)
@@ -93,9 +85,6 @@ module _ {t : Schema} (a : Address) (ok : SchemaOk t) (ia : IsAddress t a) where
 
   pub address-off-checks : (k : ℕ) → Apart (checkAt k) 4 (addressAt t a) (addressSize t a)
   address-off-checks k = inside-off-checks (a .set) (a .at) _ _ ok address-inside k
-
-  pub address-block : addressAt t a / 512 ≡ blockOf (entryOf t (a .set)) (a .at)
-  address-block = inside-block (a .set) (a .at) _ _ ok address-inside
 
 -- two addresses of one record
 one-record : {t : Schema} (n r : ℕ) (f g : Field) → SchemaOk t → n < setCount t → HasField t n f → HasField t n g → f ≢ g

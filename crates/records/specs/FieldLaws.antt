@@ -1,40 +1,34 @@
 -- Reading and storing by address: what stands at an address after a store to it is what was stored; after a store to another address, or
 -- after sealing a block, it is what stood there. Above this room nothing looks at offsets.
 -- Each law is named after the reading and the store: get.. -put.. at the same address, get.. -put.. -other at another one.
-use Prim.Native.Nat.{ℕ, _+_, _*_, _<_}
-use mathlib.Core.Path.{_≡_, refl, sym, ap}
+use Prim.Native.Nat.{ℕ, _*_, _<_}
+use mathlib.Core.Path.{_≡_, refl, ap}
 use mathlib.Core.Logic.{_≢_}
 use mathlib.Core.List.{List}
 use native.Mathlib.Omega.{arith}
 use lib.ListN.{length}
-use Rattle.octets.specs.Octets.{wordBytes, setWord, splice}
-use Rattle.octets.specs.SpliceLaws.{length-splice, getD-splice-out, run-splice, run-splice-out}
-use Rattle.octets.specs.WordLaws.{length-setWord, wordAt-splice, wordAt-setWord, wordAt-setWord-other}
-use Rattle.blocks.specs.Blocks.{seal, isSealed}
-use Rattle.blocks.specs.Laws.{getD-seal, wordAt-seal-other, run-seal, isSealed-splice}
+use Rattle.octets.specs.Octets.{wordBytes, setWord}
+use Rattle.octets.specs.SpliceLaws.{getD-splice-out, run-splice, run-splice-out}
+use Rattle.octets.specs.WordLaws.{wordAt-splice, wordAt-setWord, wordAt-setWord-other}
+use Rattle.blocks.specs.Blocks.{seal}
+use Rattle.blocks.specs.Laws.{getD-seal, wordAt-seal-other, run-seal}
 use Rattle.schema.specs.declared.Schema.{Schema}
 use Rattle.schema.specs.Decode.{entryOf, setCount}
-use Rattle.schema.specs.Place.{InSet, blockOf, placeOf}
+use Rattle.schema.specs.Place.{InSet, placeOf}
 use Rattle.schema.specs.Guarantee.{SchemaOk}
 use Rattle.records.specs.Records.{stateOf}
 use Rattle.records.specs.Address.{state, Address, IsAddress, addressAt, addressSize, getRun, getWord, putRun, putWord}
-use Rattle.records.specs.AddressLaws.{address, Inside, inside-off-blocks, address-inside, address-base, address-off-checks, addresses-apart}
+use Rattle.records.specs.AddressLaws.{address, address-base, address-off-checks, addresses-apart}
 
 -- an address of a word: a pointer's
-abbrev pub IsWord : Schema → Address → Type 0
-IsWord t a = IsAddress t a × (addressSize t a ≡ 4)
+abbrev pub WordField : Schema → Address → Type 0
+WordField t a = IsAddress t a × (addressSize t a ≡ 4)
 
 -- the run fills the address
 abbrev pub Fills : Schema → Address → List ℕ → Type 0
 Fills t a ys = length ys ≡ addressSize t a
 
 -- ---- the length is kept
-
-pub length-putWord : (t : Schema) (xs : List ℕ) (a : Address) (v : ℕ) → length (putWord t xs a v) ≡ length xs
-length-putWord t xs a v = length-setWord xs (addressAt t a) v
-
-pub length-putRun : (t : Schema) (xs : List ℕ) (a : Address) (ys : List ℕ) → length (putRun t xs a ys) ≡ length xs
-length-putRun t xs a ys = length-splice xs (addressAt t a) ys
 
 -- ---- a word stored
 
@@ -43,20 +37,14 @@ pub putRun-word : (t : Schema) (xs : List ℕ) (a : Address) (v : ℕ) → putRu
 unfolding setWord
 putRun-word t xs a v = refl
 
-pub getWord-putWord : {t : Schema} (xs : List ℕ) (a : Address) (v : ℕ) → SchemaOk t → length xs ≡ 512 * t .blocks → IsWord t a → v < 4294967296
+pub getWord-putWord : {t : Schema} (xs : List ℕ) (a : Address) (v : ℕ) → SchemaOk t → length xs ≡ 512 * t .blocks → WordField t a → v < 4294967296
     → getWord t (putWord t xs a v) a ≡ v
 getWord-putWord {t} xs a v ok e ia h = wordAt-setWord xs (addressAt t a) v h (omega (arith, address-base a ok (ia .0)))
 
-pub getWord-putWord-other : {t : Schema} (xs : List ℕ) (a b : Address) (v : ℕ) → SchemaOk t → IsWord t a → IsWord t b → b ≢ a
+pub getWord-putWord-other : {t : Schema} (xs : List ℕ) (a b : Address) (v : ℕ) → SchemaOk t → WordField t a → WordField t b → b ≢ a
     → getWord t (putWord t xs a v) b ≡ getWord t xs b
 getWord-putWord-other {t} xs a b v ok ia ib d =
     wordAt-setWord-other xs (addressAt t a) v (addressAt t b) (λ p q. addresses-apart b a ok (ib .0) (ia .0) d (omega arith) (omega arith))
-
-pub getRun-putWord-other : {t : Schema} (xs : List ℕ) (a b : Address) (v : ℕ) → SchemaOk t → IsWord t a → IsAddress t b → b ≢ a
-    → getRun t (putWord t xs a v) b ≡ getRun t xs b
-unfolding setWord
-getRun-putWord-other {t} xs a b v ok ia ib d =
-    run-splice-out xs (addressAt t a) (wordBytes v) (addressAt t b) (addressSize t b) (λ p q. addresses-apart b a ok ib (ia .0) d (omega arith) (omega arith))
 
 -- ---- a run stored
 
@@ -69,14 +57,14 @@ pub getRun-putRun-other : {t : Schema} (xs : List ℕ) (a b : Address) (ys : Lis
 getRun-putRun-other {t} xs a b ys ok ia ib h d =
     run-splice-out xs (addressAt t a) ys (addressAt t b) (addressSize t b) (λ p q. addresses-apart b a ok ib ia d (omega arith) (omega arith))
 
-pub getWord-putRun-other : {t : Schema} (xs : List ℕ) (a b : Address) (ys : List ℕ) → SchemaOk t → IsAddress t a → IsWord t b → Fills t a ys → b ≢ a
+pub getWord-putRun-other : {t : Schema} (xs : List ℕ) (a b : Address) (ys : List ℕ) → SchemaOk t → IsAddress t a → WordField t b → Fills t a ys → b ≢ a
     → getWord t (putRun t xs a ys) b ≡ getWord t xs b
 getWord-putRun-other {t} xs a b ys ok ia ib h d =
     wordAt-splice xs (addressAt t a) ys (addressAt t b) (λ p q. addresses-apart b a ok (ib .0) ia d (omega arith) (omega arith))
 
 -- ---- sealing
 
-pub getWord-seal : {t : Schema} (xs : List ℕ) (n : ℕ) (a : Address) → SchemaOk t → IsWord t a → getWord t (seal xs n) a ≡ getWord t xs a
+pub getWord-seal : {t : Schema} (xs : List ℕ) (n : ℕ) (a : Address) → SchemaOk t → WordField t a → getWord t (seal xs n) a ≡ getWord t xs a
 getWord-seal {t} xs n a ok ia = wordAt-seal-other xs n (addressAt t a) (λ p q. address-off-checks a ok (ia .0) n (omega arith) (omega arith))
 
 pub getRun-seal : {t : Schema} (xs : List ℕ) (n : ℕ) (a : Address) → SchemaOk t → IsAddress t a → getRun t (seal xs n) a ≡ getRun t xs a
@@ -90,23 +78,5 @@ module _ {t : Schema} (xs : List ℕ) (n r : ℕ) (ok : SchemaOk t) (l : n < set
   stateOf-putRun a ys ia h d =
       getD-splice-out xs (addressAt t a) ys (placeOf (entryOf t n) r) (λ p q. addresses-apart a (address n r state) ok ia (l, in-set, l) (λ e. d (ap (λ (b : Address). b .field) e)) (omega arith) (omega arith))
 
-  pub stateOf-putWord : (a : Address) (v : ℕ) → IsWord t a → stateOf (putWord t xs a v) (entryOf t n) r ≡ stateOf xs (entryOf t n) r
-  unfolding setWord
-  stateOf-putWord a v ia = stateOf-putRun a (wordBytes v) (ia .0) (sym (ia .1)) (λ e. let z : _≡_ {A = ℕ} 1 4 = cc in omega arith)
-
   pub stateOf-seal : (k : ℕ) → stateOf (seal xs k) (entryOf t n) r ≡ stateOf xs (entryOf t n) r
   stateOf-seal k = getD-seal xs k (placeOf (entryOf t n) r) (λ p q. address-off-checks (address n r state) ok (l, in-set, l) k (omega arith) (omega arith))
-
--- ---- checks: a store inside a record leaves every other block sealed, or not, as it was
-
-pub isSealed-inside : {t : Schema} (xs : List ℕ) (n r o : ℕ) (ys : List ℕ) (k : ℕ) → SchemaOk t → Inside t n r o (length ys) → k ≢ blockOf (entryOf t n) r
-    → isSealed (splice xs (placeOf (entryOf t n) r + o) ys) k ≡ isSealed xs k
-isSealed-inside {t} xs n r o ys k ok h d = isSealed-splice xs (placeOf (entryOf t n) r + o) ys k (inside-off-blocks n r o (length ys) ok h k d)
-
-module _ {t : Schema} (xs : List ℕ) (a : Address) (k : ℕ) (ok : SchemaOk t) where
-  pub isSealed-putWord : (v : ℕ) → IsWord t a → k ≢ blockOf (entryOf t (a .set)) (a .at) → isSealed (putWord t xs a v) k ≡ isSealed xs k
-  unfolding setWord
-  isSealed-putWord v ia d = isSealed-inside xs (a .set) (a .at) _ (wordBytes v) k ok (rw (ia .1) at (address-inside a ok (ia .0))) d
-
-  pub isSealed-putRun : (ys : List ℕ) → IsAddress t a → Fills t a ys → k ≢ blockOf (entryOf t (a .set)) (a .at) → isSealed (putRun t xs a ys) k ≡ isSealed xs k
-  isSealed-putRun ys ia h d = isSealed-inside xs (a .set) (a .at) _ ys k ok (rw (← h) at (address-inside a ok ia)) d

@@ -8,22 +8,22 @@ use native.Mathlib.Omega.{arith}
 use native.Mathlib.Decide.{ℕ-discrete}
 use native.Mathlib.Nat.{mod-lt, mul-le-mul-right, div-add-mod'}
 use lib.ListN.{length}
-use Rattle.octets.specs.Octets.{Apart, run, wordBytes, setWord, splice}
+use Rattle.octets.specs.Octets.{Apart, run, splice}
 use Rattle.octets.specs.SpliceLaws.{run-run, run-splice-out}
 use Rattle.blocks.specs.Blocks.{blockAt, checkAt, seal}
 use Rattle.blocks.specs.Laws.{run-seal}
 use Rattle.schema.specs.declared.Entry.{Entry}
 use Rattle.schema.specs.declared.Schema.{Schema}
 use Rattle.schema.specs.Decode.{entryOf, setCount}
-use Rattle.schema.specs.Place.{InSet, blockOf, placeOf, recordOf, LiesIn}
+use Rattle.schema.specs.Place.{InSet, blockOf, placeOf, recordOf, blocksHeld, recordsHeld, leftoverAt, leftoverSize, leftoverOf, LiesIn}
 use Rattle.schema.specs.Guarantee.{SchemaOk}
 use Rattle.schema.specs.PlaceLaws.{order?, div-mono, place-in-block}
 use Rattle.schema.specs.LayoutLaws.{rounded}
 use Rattle.schema.specs.GuaranteeLaws.{lies}
-use Rattle.records.specs.Address.{Field, state, Address, offsetOf, sizeOf, HasField, IsAddress, addressAt, addressSize, putRun, putWord}
+use Rattle.records.specs.Address.{Field, state, Address, offsetOf, sizeOf, HasField, IsAddress, addressAt, addressSize, putRun}
 use Rattle.records.specs.FieldPlaces.{record-least, field-starts}
 use Rattle.records.specs.AddressLaws.{Inside, inside-off-records, inside-off-checks, address-inside}
-use Rattle.records.specs.FieldLaws.{IsWord, Fills}
+use Rattle.records.specs.FieldLaws.{Fills}
 use Rattle.records.specs.WholeRecords.{putRecord, IsWhole}
 
 -- ---- fillers: "state byte (1 live), three zeros"
@@ -62,32 +62,14 @@ module _ {t : Schema} (n r : ℕ) (ok : SchemaOk t) (l : n < setCount t) (in-set
     fillerOf-putRun a ys ia h =
         run-splice-out xs (addressAt t a) ys (placeOf (entryOf t n) r + 1) 3 (λ p q. address-off-fillers a ia (omega arith) (omega arith))
 
-    pub fillerOf-putWord : (a : Address) (v : ℕ) → IsWord t a → fillerOf (putWord t xs a v) (entryOf t n) r ≡ fillerOf xs (entryOf t n) r
-    unfolding setWord
-    fillerOf-putWord a v ia = fillerOf-putRun a (wordBytes v) (ia .0) (sym (ia .1))
-
     pub fillerOf-seal : (k : ℕ) → fillerOf (seal xs k) (entryOf t n) r ≡ fillerOf xs (entryOf t n) r
     fillerOf-seal k =
         run-seal xs k (placeOf (entryOf t n) r + 1) 3 (inside-off-checks n r 1 3 ok (l, in-set, record-least t ok n l) k)
 
 -- ---- leftovers: "Room after records is zero."
 
--- how many records the k-th block of a set holds
-abbrev pub recordsIn : Entry → ℕ → ℕ
-recordsIn e k = min (e .per) (e .records - k * e .per)
-
--- the room behind them, in front of the check
-abbrev pub leftoverAt : Entry → ℕ → ℕ
-leftoverAt e k = blockAt (e .first .0 + k) + recordsIn e k * e .size
-
-abbrev pub leftoverSize : Entry → ℕ → ℕ
-leftoverSize e k = 508 - recordsIn e k * e .size
-
-abbrev pub leftoverOf : List ℕ → Entry → ℕ → List ℕ
-leftoverOf b e k = run b (leftoverAt e k) (leftoverSize e k)
-
 -- a record is one of those of its block
-record-in : (e : Entry) (r : ℕ) → 1 ≤ e .per → InSet e r → (r - 1) % e .per + 1 ≤ recordsIn e ((r - 1) / e .per)
+record-in : (e : Entry) (r : ℕ) → 1 ≤ e .per → InSet e r → (r - 1) % e .per + 1 ≤ recordsHeld e ((r - 1) / e .per)
 record-in e r p in-set =
     let m : (r - 1) % e .per < e .per = mod-lt (r - 1) p in
     omega (arith, div-add-mod' (r - 1) (e .per))
@@ -99,12 +81,8 @@ record-leftover {e} r ok in-set = omega (arith, mul-le-mul-right (e .size) (reco
 
 leftover-ends : {e : Entry} {n : ℕ} (k : ℕ) → LiesIn e n → leftoverAt e k + leftoverSize e k ≡ checkAt (e .first .0 + k)
 leftover-ends {e} k ok =
-    let m : recordsIn e k ≤ e .per = omega arith in
+    let m : recordsHeld e k ≤ e .per = omega arith in
     omega (arith, ok .whole, mul-le-mul-right (e .size) m)
-
--- k numbers a block of the set, from 0
-abbrev pub IsBlockOf : Entry → ℕ → Type 0
-IsBlockOf e k = k < (e .records + (e .per - 1)) / e .per
 
 own-leftover : {e : Entry} {n : ℕ} (r o m k : ℕ) → LiesIn e n → InSet e r → o + m ≤ e .size → Apart (placeOf e r + o) m (leftoverAt e k) (leftoverSize e k)
 unfolding blockOf
@@ -115,7 +93,7 @@ own-leftover {e} r o m k ok in-set h p q = go (order? k ((r - 1) / e .per))
     go (inr (inl d)) = omega (arith, rw d at q, record-leftover r ok in-set)
     go (inr (inr l)) = omega (arith, leftover-ends k ok, place-in-block r ok)
 
-module _ {t : Schema} (i k : ℕ) (ok : SchemaOk t) (li : i < setCount t) (lk : IsBlockOf (entryOf t i) k) where
+module _ {t : Schema} (i k : ℕ) (ok : SchemaOk t) (li : i < setCount t) (lk : k < blocksHeld (entryOf t i)) where
   in-base : LiesIn (entryOf t i) (512 * t .blocks)
   in-base = lies i ok li refl
 

@@ -1,26 +1,23 @@
 -- A whole record stored at once: a new one, one that moves, one that is wiped. What stands in it afterwards is what the stored bytes say at
 -- the field's offset; every other record is as it was.
 use Prim.Native.Nat.{ℕ, _+_, _*_, _≤_, _<_}
-use mathlib.Core.Path.{_≡_, sym}
-use mathlib.Core.Logic.{_≢_}
+use mathlib.Core.Path.{_≡_}
 use mathlib.Core.List.{List}
 use native.Mathlib.Omega.{arith}
 use lib.ListN.{length}
-use Rattle.octets.specs.Octets.{Apart, byteAt, run, wordAt, wordBytes, setWord, splice}
-use Rattle.octets.specs.SpliceLaws.{length-splice, getD-run, run-run, getD-splice-in, getD-splice-out, run-splice, run-splice-in, run-splice-out}
-use Rattle.octets.specs.WordLaws.{wordAt-part, wordAt-splice, wordAt-splice-in}
-use Rattle.blocks.specs.Blocks.{isSealed}
-use Rattle.blocks.specs.Laws.{isSealed-splice}
+use Rattle.octets.specs.Octets.{Apart, byteAt, run, wordAt, splice}
+use Rattle.octets.specs.SpliceLaws.{getD-run, run-run, getD-splice-out, run-splice, run-splice-out}
+use Rattle.octets.specs.WordLaws.{wordAt-part, wordAt-splice}
 use Rattle.schema.specs.declared.Schema.{Schema}
 use Rattle.schema.specs.Decode.{entryOf, setCount}
-use Rattle.schema.specs.Place.{InSet, blockOf, placeOf, recordOf}
+use Rattle.schema.specs.Place.{InSet, placeOf, recordOf}
 use Rattle.schema.specs.Guarantee.{SchemaOk}
 use Rattle.schema.specs.GuaranteeLaws.{places-apart}
 use Rattle.records.specs.Records.{stateOf}
-use Rattle.records.specs.Address.{Field, state, Address, offsetOf, sizeOf, HasField, IsAddress, addressAt, addressSize, getRun, getWord, putRun, putWord}
+use Rattle.records.specs.Address.{Field, state, Address, offsetOf, sizeOf, HasField, IsAddress, addressAt, addressSize, getRun, getWord, putRun}
 use Rattle.records.specs.FieldPlaces.{field-inside}
-use Rattle.records.specs.AddressLaws.{address, Inside, inside-off-records, inside-base, inside-off-blocks, address-inside}
-use Rattle.records.specs.FieldLaws.{IsWord, Fills}
+use Rattle.records.specs.AddressLaws.{address, Inside, inside-off-records, inside-base, address-inside}
+use Rattle.records.specs.FieldLaws.{WordField, Fills}
 
 -- the data base with the bytes ys in place of record r of set n
 abbrev pub putRecord : Schema → List ℕ → ℕ → ℕ → List ℕ → List ℕ
@@ -61,14 +58,7 @@ module _ {t : Schema} (xs : List ℕ) (a : Address) (k q : ℕ) (ok : SchemaOk t
   pub recordOf-putRun-other : (ys : List ℕ) → IsAddress t a → Fills t a ys → recordOf (putRun t xs a ys) (entryOf t k) q ≡ recordOf xs (entryOf t k) q
   recordOf-putRun-other ys ia h = recordOf-inside-other xs (a .set) (a .at) _ ys k q ok (rw (← h) at (address-inside a ok ia)) l in-q d
 
-  pub recordOf-putWord-other : (v : ℕ) → IsWord t a → recordOf (putWord t xs a v) (entryOf t k) q ≡ recordOf xs (entryOf t k) q
-  unfolding setWord
-  recordOf-putWord-other v ia = recordOf-putRun-other (wordBytes v) (ia .0) (sym (ia .1))
-
 -- ---- a record stored: the length is kept
-
-pub length-putRecord : (t : Schema) (xs : List ℕ) (n r : ℕ) (ys : List ℕ) → length (putRecord t xs n r ys) ≡ length xs
-length-putRecord t xs n r ys = length-splice xs (placeOf (entryOf t n) r) ys
 
 module _ {t : Schema} (xs : List ℕ) (n r : ℕ) (ys : List ℕ) (ok : SchemaOk t) (w : IsWhole t n r ys) where
   in-base : length xs ≡ 512 * t .blocks → placeOf (entryOf t n) r + length ys ≤ length xs
@@ -78,21 +68,6 @@ module _ {t : Schema} (xs : List ℕ) (n r : ℕ) (ys : List ℕ) (ok : SchemaOk
 
   pub recordOf-putRecord : length xs ≡ 512 * t .blocks → recordOf (putRecord t xs n r ys) (entryOf t n) r ≡ ys
   recordOf-putRecord e = rw (← (w .2)) (run-splice xs (placeOf (entryOf t n) r) ys (in-base e))
-
-  pub getRun-putRecord : (f : Field) → length xs ≡ 512 * t .blocks → HasField t n f
-      → getRun t (putRecord t xs n r ys) (address n r f) ≡ run ys (offsetOf t (entryOf t n) f) (sizeOf t (entryOf t n) f)
-  getRun-putRecord f e h =
-      run-splice-in xs (placeOf (entryOf t n) r) ys (offsetOf t (entryOf t n) f) (sizeOf t (entryOf t n) f) (omega (arith, field-inside t ok n f (w .0) h)) (in-base e)
-
-  pub getWord-putRecord : (f : Field) → length xs ≡ 512 * t .blocks → HasField t n f → sizeOf t (entryOf t n) f ≡ 4
-      → getWord t (putRecord t xs n r ys) (address n r f) ≡ wordAt ys (offsetOf t (entryOf t n) f)
-  getWord-putRecord f e h s =
-      wordAt-splice-in xs (placeOf (entryOf t n) r) ys (offsetOf t (entryOf t n) f) (omega (arith, field-inside t ok n f (w .0) h)) (in-base e)
-
-  pub stateOf-putRecord : length xs ≡ 512 * t .blocks → stateOf (putRecord t xs n r ys) (entryOf t n) r ≡ byteAt ys 0
-  stateOf-putRecord e =
-      let z : placeOf (entryOf t n) r + 0 ≡ placeOf (entryOf t n) r = omega arith in
-      rw z at (getD-splice-in xs (placeOf (entryOf t n) r) ys 0 (omega (arith, field-inside t ok n state (w .0) (w .0))) (in-base e))
 
   -- ---- every other record
 
@@ -109,7 +84,7 @@ module _ {t : Schema} (xs : List ℕ) (n r : ℕ) (ys : List ℕ) (ok : SchemaOk
       run-splice-out xs (placeOf (entryOf t n) r) ys (addressAt t a) (addressSize t a)
       (λ p q. apart (a .set) (a .at) (ia .0) (ia .1) d (omega (arith, address-inside a ok ia)) (omega (arith, address-inside a ok ia)))
 
-  pub getWord-putRecord-other : (a : Address) → IsWord t a → Elsewhere (a .set) (a .at) n r → getWord t (putRecord t xs n r ys) a ≡ getWord t xs a
+  pub getWord-putRecord-other : (a : Address) → WordField t a → Elsewhere (a .set) (a .at) n r → getWord t (putRecord t xs n r ys) a ≡ getWord t xs a
   getWord-putRecord-other a ia d =
       wordAt-splice xs (placeOf (entryOf t n) r) ys (addressAt t a)
       (λ p q. apart (a .set) (a .at) (ia .0 .0) (ia .0 .1) d (omega (arith, address-inside a ok (ia .0))) (omega (arith, address-inside a ok (ia .0))))
@@ -119,7 +94,3 @@ module _ {t : Schema} (xs : List ℕ) (n r : ℕ) (ys : List ℕ) (ok : SchemaOk
   stateOf-putRecord-other k q l in-q d =
       let one = field-inside t ok k state l l in
       getD-splice-out xs (placeOf (entryOf t n) r) ys (placeOf (entryOf t k) q) (λ x y. apart k q l in-q d (omega arith) (omega arith))
-
-  -- every other block is sealed, or not, as it was
-  pub isSealed-putRecord : (k : ℕ) → k ≢ blockOf (entryOf t n) r → isSealed (putRecord t xs n r ys) k ≡ isSealed xs k
-  isSealed-putRecord k d = isSealed-splice xs (placeOf (entryOf t n) r) ys k (λ p q. inside-off-blocks n r 0 (length ys) ok (w .0, w .1, omega arith) k d (omega arith) (omega arith))

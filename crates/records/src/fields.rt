@@ -10,7 +10,7 @@ ghost use mathlib.Core.Path.{_≡_};
 ghost use Prim.Native.Nat.{_+_, _≤_};
 ghost use lib.ListN.{length};
 ghost use Rattle.octets.specs.Octets.{run, wordAt, setWord, splice, zeros, sameBytes};
-ghost use Rattle.terms.specs.Terms.{keyOf};
+ghost use Rattle.terms.specs.Terms.{keyOf, keyFrom};
 ghost use Rattle.schema.specs.Place.{InSet, LiesIn, placeOf, recordOf};
 ghost use Rattle.records.specs.Records.{stateOf, isLive, rootNext, rootPrior, firstOn, lastOn, priorOn, nextOn};
 
@@ -117,11 +117,9 @@ pub fn key_in(base: &[u8], e: Entry, r: RecordNo, o: usize, len: usize) -> Key
     requires { ⌜ InSet e (r .0) ⌝ }
     requires { ⌜ LiesIn e (length (now base)) ⌝ }
     requires { ⌜ (len ≤ 16) × (o + len ≤ e .size) ⌝ }
-    ensures { λ k. ⌜ (keyOf k ≡ run (now (base .entry)) (placeOf e (r .0) + o) len) × (k .len ≡ len) ⌝ }
+    ensures { λ k. ⌜ (keyOf k ≡ run (now (base .entry)) (placeOf e (r .0) + o) len) × (k .len ≡ len) × (k ≡ keyFrom (run (now (base .entry)) (placeOf e (r .0) + o) len)) ⌝ }
 {
-    let part = record_of(base, e, r);
-    let end = o + len;
-    Key::of(&part[o..end])
+    Key::part(record_of(base, e, r), o, len)
 }
 
 // Stores a word at a place of the record.
@@ -142,7 +140,10 @@ pub fn wipe(base: &mut [u8], e: Entry, r: RecordNo)
     requires { ⌜ LiesIn e (length (now base)) ⌝ }
     ensures { λ _. ⌜ now (base .exit) ≡ splice (now (base .entry)) (placeOf e (r .0)) (zeros (e .size)) ⌝ }
 {
-    octets::zero(base, place_of(e, r), e.size as usize);
+    let at = place_of(e, r);
+    let size = e.size as usize;
+    let end = at + size;
+    octets::zero(&mut base[at..end], 0, size);
 }
 
 // Stores all the bytes of one record over another of the same set. Two records of a set lie apart, so they are moved inside the data base

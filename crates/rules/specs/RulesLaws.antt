@@ -14,23 +14,12 @@ use Rattle.octets.specs.RunLaws.{every-append}
 use Rattle.octets.specs.Below.{allBelow}
 use Rattle.octets.specs.BelowLaws.{allBelow-all}
 use Rattle.blocks.specs.Blocks.{isSealed}
-use Rattle.schema.specs.Fields.{setsOf, nameOf}
-use Rattle.schema.specs.Rules.{blockRule, headRule, entryRule, restRule, namesRule, clash, isPathSlot, masterOfSlot, lettersOfSlot, lettersRule, formRule}
+use Rattle.schema.specs.Fields.{setsOf}
+use Rattle.schema.specs.Rules.{blockRule, headRule, clash, isPathSlot, masterOfSlot, lettersOfSlot, formRule}
 use Rattle.schema.specs.FormFacts.{head-ok}
+use Rattle.rules.specs.Parts.{apart, bodyRule}
 
 -- ---- names for what functions answer
-
--- entry i has not entry k's name
-abbrev pub older : List ℕ → ℕ → ℕ → Bool
-older s k i = not (sameBytes (nameOf s i) (nameOf s k))
-
--- the paths in slots p and q do not clash
-abbrev pub apart : List ℕ → ℕ → ℕ → Bool
-apart s q p = not (clash s p q)
-
--- what `formRule` asks past the block and the head
-abbrev pub bodyRule : List ℕ → Bool
-bodyRule s = allBelow (entryRule s) 8 && restRule s && namesRule s && lettersRule s
 
 -- ---- a run of zeros, byte by byte
 

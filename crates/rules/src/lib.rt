@@ -11,7 +11,7 @@ ghost use Rattle.octets.specs.Octets.{run, allZero, sameBytes};
 ghost use Rattle.octets.specs.Below.{allBelow};
 ghost use Rattle.schema.specs.Fields.{mastersOf, setsOf};
 ghost use Rattle.schema.specs.Rules.{isCapitalOrDigit, headRule, nameRule, masterRule, variableRule, countRule, pathRule, slotRule, setRule, entryRule, restRule, namesRule, clash, lettersRule, formRule};
-ghost use Rattle.rules.specs.RulesLaws.{older, apart, bodyRule};
+ghost use Rattle.rules.specs.Parts.{older, apart, bodyRule};
 
 pub mod fields;
 

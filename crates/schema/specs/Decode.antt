@@ -70,24 +70,24 @@ pathsOf e = take (e .count) (e .paths)
 abbrev pub setCount : Schema → ℕ
 setCount t = t .masters + t .variables
 
--- path j of set i
-unfoldable pub pathFrom : List ℕ → ℕ → ℕ → Path
-pathFrom s i j =
-    cond (isPath s i j)
-    (record {
+-- path j of set i, where slot j holds one; every slot of a set
+abbrev pub fullPath : List ℕ → ℕ → ℕ → Path
+fullPath s i j =
+    record {
       letters = byteAt s (slotAt i j) ∷ byteAt s (slotAt i j + 1) ∷ [];
       master = record { 0 = masterOf s i j };
       len = pathKeyLength s i j;
       at = keyPlace s i j;
       link = linkPlace s i j;
-    })
-    emptyPath
+    }
 
--- set i
-unfoldable pub entryFrom : List ℕ → ℕ → Entry
-entryFrom s i =
-    cond (ltb i (setsOf s))
-    (record {
+unfoldable pub pathFrom : List ℕ → ℕ → ℕ → Path
+pathFrom s i j = cond (isPath s i j) (fullPath s i j) emptyPath
+
+-- set i, where there is one; every entry
+abbrev pub fullEntry : List ℕ → ℕ → Entry
+fullEntry s i =
+    record {
       name = wordAt s (entryAt i);
       kind = kindOf s i;
       count = countOf s i;
@@ -99,8 +99,10 @@ entryFrom s i =
       body = bodyPlace s i;
       first = record { 0 = firstBlock s i };
       paths = upto (pathFrom s i) 4;
-    })
-    emptyEntry
+    }
+
+unfoldable pub entryFrom : List ℕ → ℕ → Entry
+entryFrom s i = cond (ltb i (setsOf s)) (fullEntry s i) emptyEntry
 
 -- the whole schema
 unfoldable pub schemaOf : List ℕ → Schema
@@ -115,3 +117,7 @@ schemaOf s =
 -- the answer of decoding, on every buffer of every length
 unfoldable pub decodedOf : List ℕ → Decoded
 decodedOf s = record { ok = keepsRules s; schema = cond (keepsRules s) (schemaOf s) emptySchema }
+
+-- the set of path k's masters
+abbrev pub mastersOn : Schema → Entry → ℕ → Entry
+mastersOn t e k = entryOf t (pathOf e k .master .0)

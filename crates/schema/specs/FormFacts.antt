@@ -5,28 +5,15 @@ use mathlib.Core.Bool.{Bool, true, false, cond, and-eq-true-iff}
 use mathlib.Core.List.{List}
 use native.Mathlib.Omega.{arith}
 use lib.Dec.{ltb}
-use lib.ListN.{length}
 use borrow.Author.Tests.{lt-ltb, ltb-true, leb-true, eqb-true}
 use Rattle.octets.specs.BelowLaws.{allBelow-at}
-use Rattle.schema.specs.Fields.{mastersOf, variablesOf, setsOf, countOf, recordsOf, masterOf}
+use Rattle.schema.specs.Fields.{mastersOf, setsOf, countOf, masterOf}
 use Rattle.schema.specs.Rules.{blockRule, headRule, masterRule, variableRule, countRule, pathRule, slotRule, setRule, entryRule, formRule}
+use Rattle.schema.specs.Formed.{HeadFormed, SetFormed, Formed}
 
--- M and V
-pub record HeadOk (s : List ℕ) : Type 0 where
-  pub some : 1 ≤ mastersOf s
-  pub masters : mastersOf s ≤ 4
-  pub variables : variablesOf s ≤ 4
-
-pub head-ok : (s : List ℕ) → headRule s ≡ true → HeadOk s
+pub head-ok : (s : List ℕ) → headRule s ≡ true → HeadFormed s
 unfolding headRule
 head-ok s h = omega (arith, leb-true, simp and-eq-true-iff at h)
-
--- a used entry: its path count, R, and where its paths lead
-pub record SetFormed (s : List ℕ) (i : ℕ) : Type 0 where
-  pub few : countOf s i ≤ 4
-  pub some : 1 ≤ recordsOf s i
-  pub many : recordsOf s i ≤ 65535
-  pub leads : (j : ℕ) → j < countOf s i → masterOf s i j < mastersOf s
 
 few-paths : (s : List ℕ) (i : ℕ) (t : Bool) → cond t (masterRule s i) (variableRule s i) ≡ true → countOf s i ≤ 4
 unfolding masterRule variableRule
@@ -50,12 +37,6 @@ set-formed s i h =
       many = omega (arith, leb-true, t);
       leads = λ j l. path-leads s i j l (allBelow-at (slotRule s i) 4 j (t .1) (omega arith));
     }
-
--- the whole schema: what decoding it stands on
-pub record Formed (s : List ℕ) : Type 0 where
-  pub long : length s ≡ 512
-  pub head : HeadOk s
-  pub set : (i : ℕ) → i < setsOf s → SetFormed s i
 
 pub entry-set : (s : List ℕ) (i : ℕ) → i < setsOf s → entryRule s i ≡ true → setRule s i ≡ true
 unfolding entryRule

@@ -68,5 +68,6 @@ pub record SchemaOk (t : Schema) : Type 0 where
   pub links-apart : (i j k l : ℕ) → IsPathOf t i j → IsPathOf t k l → ((i ≡ k) × (j ≡ l) → ⊥) → pathOf (entryOf t i) j .master .0 ≡ pathOf (entryOf t k) l .master .0
       → Apart (pathOf (entryOf t i) j .link) 8 (pathOf (entryOf t k) l .link) 8
   -- names and letters
+  pub words : (i : ℕ) → i < setCount t → entryOf t i .name < 4294967296
   pub names : (i k : ℕ) → i < k → k < setCount t → entryOf t i .name ≡ entryOf t k .name → ⊥
   pub letters : (i j k : ℕ) → j < k → IsPathOf t i k → pathOf (entryOf t i) j .letters ≡ pathOf (entryOf t i) k .letters → ⊥

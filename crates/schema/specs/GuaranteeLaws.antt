@@ -11,14 +11,12 @@ use Rattle.octets.specs.Octets.{Apart, byteAt, wordAt, wordBytes}
 use Rattle.octets.specs.SpliceLaws.{drop-one, drop-four}
 use Rattle.octets.specs.WordLaws.{bytes-word4}
 use Rattle.octets.specs.RunLaws.{eq-sameBytes}
-use Rattle.octets.specs.Below.{upto}
-use Rattle.octets.specs.BelowLaws.{never-both, length-upto, getD-upto}
-use Rattle.schema.specs.declared.Path.{Path}
-use Rattle.schema.specs.declared.Entry.{Entry}
+use Rattle.octets.specs.BelowLaws.{length-upto, getD-upto}
+use Rattle.octets.specs.TestLaws.{never-both}
 use Rattle.schema.specs.declared.Schema.{Schema}
-use Rattle.schema.specs.Fields.{mastersOf, setsOf, entryAt, slotAt, nameOf, kindOf, countOf, roomOf, recordsOf, keyLengthOf, lettersOf, masterOf}
-use Rattle.schema.specs.Layout.{pathKeyLength, keyPlace, linkPlace, bodyPlace, lengthOf, perBlock, firstBlock, keepsRules}
-use Rattle.schema.specs.Decode.{noPath, noEntry, entryOf, pathOf, setCount, pathFrom, entryFrom, schemaOf, decodedOf}
+use Rattle.schema.specs.Fields.{mastersOf, setsOf, entryAt, slotAt, nameOf, countOf, recordsOf, lettersOf, masterOf}
+use Rattle.schema.specs.Layout.{linkPlace, perBlock, firstBlock, keepsRules}
+use Rattle.schema.specs.Decode.{noPath, noEntry, entryOf, pathOf, setCount, fullPath, pathFrom, fullEntry, entryFrom, schemaOf, decodedOf}
 use Rattle.schema.specs.Guarantee.{SetOk, MasterOk, VariableOk, PathOk, IsPathOf, SchemaOk}
 use Rattle.schema.specs.PlaceLaws.{order?, div-mono, place-in-block, records-apart}
 use Rattle.schema.specs.Place.{InSet, blockOf, placeOf, LiesIn}
@@ -27,48 +25,22 @@ use Rattle.schema.specs.LayoutLaws.{key-above, keys-ordered, body-variab
 
 -- ---- the decoded value, field by field
 
-abbrev pub setFrom : List ℕ → ℕ → Entry
-setFrom s i =
-    record {
-      name = wordAt s (entryAt i);
-      kind = kindOf s i;
-      count = countOf s i;
-      room = roomOf s i;
-      records = recordsOf s i;
-      key = keyLengthOf s i;
-      per = perBlock s i;
-      size = lengthOf s i;
-      body = bodyPlace s i;
-      first = record { 0 = firstBlock s i };
-      paths = upto (pathFrom s i) 4;
-    }
-
-abbrev pub pathAt : List ℕ → ℕ → ℕ → Path
-pathAt s i j =
-    record {
-      letters = byteAt s (slotAt i j) ∷ byteAt s (slotAt i j + 1) ∷ [];
-      master = record { 0 = masterOf s i j };
-      len = pathKeyLength s i j;
-      at = keyPlace s i j;
-      link = linkPlace s i j;
-    }
-
-pub set-is : (s : List ℕ) (i : ℕ) → setsOf s ≤ 8 → i < setsOf s → entryOf (schemaOf s) i ≡ setFrom s i
+pub set-is : (s : List ℕ) (i : ℕ) → setsOf s ≤ 8 → i < setsOf s → entryOf (schemaOf s) i ≡ fullEntry s i
 unfolding schemaOf entryFrom
 set-is s i e l = getD-upto (entryFrom s) 8 i noEntry (omega arith) ∙ (rw (lt-ltb i (setsOf s) l))
 
-pub path-is : (s : List ℕ) (i j : ℕ) → countOf s i ≤ 4 → j < countOf s i → pathOf (setFrom s i) j ≡ pathAt s i j
+pub path-is : (s : List ℕ) (i j : ℕ) → countOf s i ≤ 4 → j < countOf s i → pathOf (fullEntry s i) j ≡ fullPath s i j
 unfolding pathFrom
 path-is s i j f l = getD-upto (pathFrom s i) 4 j noPath (omega arith) ∙ (rw (lt-ltb j (countOf s i) l))
 
 module _ (s : List ℕ) (kept : keepsRules s ≡ true) where
-  the-set : (i : ℕ) → i < setsOf s → entryOf (schemaOf s) i ≡ setFrom s i
+  the-set : (i : ℕ) → i < setsOf s → entryOf (schemaOf s) i ≡ fullEntry s i
   the-set i l = set-is s i (omega (arith, head-facts s kept)) l
 
-  the-path : (i j : ℕ) → i < setsOf s → j < countOf s i → pathOf (setFrom s i) j ≡ pathAt s i j
+  the-path : (i j : ℕ) → i < setsOf s → j < countOf s i → pathOf (fullEntry s i) j ≡ fullPath s i j
   the-path i j l c = path-is s i j (set-facts s kept i l .few) c
 
-  set-ok : (i : ℕ) → i < setsOf s → SetOk (schemaOf s) (setFrom s i)
+  set-ok : (i : ℕ) → i < setsOf s → SetOk (schemaOf s) (fullEntry s i)
   unfolding schemaOf
   set-ok i l =
       let f = set-facts s kept i l in
@@ -83,12 +55,12 @@ module _ (s : List ℕ) (kept : keepsRules s ≡ true) where
         inside = omega (arith, blocks-last s i p (f .some), sets-ordered s i (setsOf s) l);
       }
 
-  master-ok : (i : ℕ) → i < mastersOf s → MasterOk (setFrom s i)
+  master-ok : (i : ℕ) → i < mastersOf s → MasterOk (fullEntry s i)
   master-ok i l =
       let f = master-facts s kept i l in
       record { kind = f .kind; none = f .none; key-least = f .key-least; key-most = f .key-most; room = omega (arith, body-master s i l) }
 
-  variable-ok : (i : ℕ) → mastersOf s ≤ i → i < setsOf s → VariableOk (setFrom s i)
+  variable-ok : (i : ℕ) → mastersOf s ≤ i → i < setsOf s → VariableOk (fullEntry s i)
   variable-ok i m l =
       let f = variable-facts s kept i m l in
       record {
@@ -104,7 +76,7 @@ module _ (s : List ℕ) (kept : keepsRules s ≡ true) where
   unfolding schemaOf
   spelt i j h = let l : i < setsOf s = h .1 in (h .0, l, rw (the-set i l) at (h .2))
 
-  path-ok : (i j : ℕ) → mastersOf s ≤ i → i < setsOf s → j < countOf s i → PathOk (schemaOf s) (setFrom s i) (pathAt s i j)
+  path-ok : (i j : ℕ) → mastersOf s ≤ i → i < setsOf s → j < countOf s i → PathOk (schemaOf s) (fullEntry s i) (fullPath s i j)
   unfolding schemaOf
   path-ok i j m l c =
       let led = path-facts s kept i j l c in
@@ -154,11 +126,16 @@ module _ (s : List ℕ) (kept : keepsRules s ≡ true) where
       let f = set-facts s kept i (omega arith) in
       omega (arith, blocks-last s i (per-some s i (f .fits)) (f .some), sets-ordered s i k l)
 
+  -- a name is a word
+  name-small : (i : ℕ) → i < setsOf s → wordAt s (entryAt i) < 4294967296
+  unfolding wordAt
+  name-small i l = omega (arith, name-facts s kept i l)
+
   names-apart : (i k : ℕ) → i < k → k < setsOf s → wordAt s (entryAt i) ≡ wordAt s (entryAt k) → ⊥
   names-apart i k l m e =
       never-both _ (eq-sameBytes (nameOf s i) (nameOf s k) (name-word i (omega arith) ∙ ap wordBytes e ∙ sym (name-word k m))) (names-differ s kept i k l m)
 
-  letters-apart : (i j k : ℕ) → j < k → i < setsOf s → k < countOf s i → pathAt s i j .letters ≡ pathAt s i k .letters → ⊥
+  letters-apart : (i j k : ℕ) → j < k → i < setsOf s → k < countOf s i → fullPath s i j .letters ≡ fullPath s i k .letters → ⊥
   letters-apart i j k l m c e =
       letters-differ s kept i j k l m c (eq-sameBytes (lettersOf s i j) (lettersOf s i k) (letters-bytes i j m (omega arith) ∙ e ∙ sym (letters-bytes i k m c)))
 
@@ -181,6 +158,7 @@ module _ (s : List ℕ) (kept : keepsRules s ≡ true) where
             let d = spelt i j p in
             let g = spelt k l q in
             rw (the-set i (d .1), the-path i j (d .1) (d .2), the-set k (g .1), the-path k l (g .1) (g .2)) (links-apart i j k l (d .1) (d .2) (g .1) (g .2));
+        words = λ i l. rw (the-set i l) (name-small i l);
         names = λ i k l m. rw (the-set i (omega arith), the-set k m) (names-apart i k l m);
         letters = λ i j k l h.
             let d = spelt i k h in

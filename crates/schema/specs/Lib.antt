@@ -2,10 +2,13 @@ pub mod Fields
 pub mod Rules
 pub mod Layout
 pub mod Decode
+pub mod Naming
 pub mod Place
+pub mod Formed
 pub mod Guarantee
 pub mod PlaceLaws
 pub mod FormFacts
 pub mod RuleFacts
 pub mod LayoutLaws
 pub mod GuaranteeLaws
+pub mod NamingLaws

@@ -1,21 +1,22 @@
 -- Where the records of a set lie, as facts: each in the first 508 bytes of one block of the base, and no two on one another.
 -- To `omega` a quotient, a remainder and a product of two variables are unknowns; the first section holds the few facts about them, and
 -- everything below it is linear.
-use Prim.Native.Nat.{ℕ, _+_, _*_, _-_, _/_, _%_, _≤_, _<_}
-use mathlib.Core.Path.{_≡_, refl, sym, _∙_}
+use Prim.Native.Nat.{ℕ, _+_, _*_, _-_, _/_, _%_, _≤_, _<_, min}
+use mathlib.Core.Path.{_≡_, refl, sym, ap, _∙_}
 use mathlib.Core.Logic.{_≢_, _⊎_, inl, inr}
 use mathlib.Core.Bool.{Bool, true, false}
 use mathlib.Core.List.{List}
 use native.Mathlib.Omega.{arith}
-use native.Mathlib.Nat.{mod-lt, mul-le-mul-right, div-lt-iff-lt-mul, lt-div-mul-add, div-add-mod'}
+use native.Mathlib.Nat.{mod-lt, mul-le-mul-right, div-lt-iff-lt-mul, lt-div-mul-add, div-add-mod', div-eq-of-lt-le, le-div-iff-mul-le, min-le-left, sub-zero}
 use borrow.Author.Tests.{ltb-true, ltb-false}
 use lib.Dec.{ltb}
 use lib.ListN.{length, drop, length-drop}
 use lib.Seq.{length-take-le}
 use Rattle.octets.specs.Octets.{Apart}
-use Rattle.blocks.specs.Blocks.{blockAt, checkAt}
+use Rattle.blocks.specs.Blocks.{blockAt, blockWith, checkAt}
 use Rattle.schema.specs.declared.Entry.{Entry}
-use Rattle.schema.specs.Place.{InSet, blockOf, placeOf, recordOf, LiesIn}
+use Rattle.schema.specs.declared.Stretch.{Stretch}
+use Rattle.schema.specs.Place.{InSet, blockOf, placeOf, recordOf, stretchFrom, nextStretch, blocksHeld, recordsHeld, LiesIn}
 
 -- ---- quotients, remainders and products
 
@@ -42,6 +43,24 @@ in-block k per size h l =
 -- a quotient and a remainder tell the number
 div-mod-same : (a b k : ℕ) → a / k ≡ b / k → a % k ≡ b % k → a ≡ b
 div-mod-same a b k p q = sym (div-add-mod' a k) ∙ (rw (p, q) (div-add-mod' b k))
+
+module _ (q k : ℕ) where
+  div-along : (i : ℕ) → q % k + i < k → (q + i) / k ≡ q / k
+  div-along i h = let d = div-add-mod' q k in div-eq-of-lt-le k (omega arith) (omega arith)
+
+  mod-along : (i : ℕ) → q % k + i < k → (q + i) % k ≡ q % k + i
+  mod-along i h = omega (arith, div-add-mod' q k, div-add-mod' (q + i) k, ap (λ (d : ℕ). d * k) (div-along i h))
+
+  div-past : 1 ≤ k → (q + (k - q % k)) / k ≡ q / k + 1
+  div-past h =
+      let d = div-add-mod' q k in
+      let m = mod-lt q {m = k} h in
+      div-eq-of-lt-le k (omega arith) (omega arith)
+
+  mod-past : 1 ≤ k → (q + (k - q % k)) % k ≡ 0
+  mod-past h =
+      let m = mod-lt q {m = k} h in
+      omega (arith, div-add-mod' q k, div-add-mod' (q + (k - q % k)) k, ap (λ (d : ℕ). d * k) (div-past h))
 
 -- ---- one record
 
@@ -103,3 +122,74 @@ module _ {e : Entry} {n : ℕ} (r q : ℕ) (ok : LiesIn e n) where
       go : (placeOf e r + e .size ≤ placeOf e q) ⊎ (placeOf e q + e .size ≤ placeOf e r) → ⊥
       go (inl k) = omega arith
       go (inr k) = omega arith
+
+-- ---- the records of one block, one behind the other
+
+pub place-along : (e : Entry) (q i : ℕ) → q % e .per + i < e .per → placeOf e (q + 1 + i) ≡ placeOf e (q + 1) + i * e .size
+unfolding placeOf blockOf
+place-along e q i h =
+    let s : q + 1 + i - 1 ≡ q + i = omega arith in
+    let t : q + 1 - 1 ≡ q = omega arith in
+    rw (s, t, div-along q (e .per) i h, mod-along q (e .per) i h) (omega arith)
+
+-- a block that is passed: the next record begins the next block
+next-block : {e : Entry} {n : ℕ} (q : ℕ) → LiesIn e n → placeOf e (q + (e .per - q % e .per) + 1) ≡ blockAt (blockOf e (q + 1) + 1)
+unfolding placeOf blockOf
+next-block {e} q ok =
+    let s : q + (e .per - q % e .per) + 1 - 1 ≡ q + (e .per - q % e .per) = omega arith in
+    let t : q + 1 - 1 ≡ q = omega arith in
+    rw (s, t, div-past q (e .per) (ok .per), mod-past q (e .per) (ok .per)) (omega arith)
+
+-- `s` are the records from q + 1 on in their block
+module _ {e : Entry} {n : ℕ} (q : ℕ) (s : Stretch) (ok : LiesIn e n) (l : q < e .records) (h : s ≡ stretchFrom e (q + 1)) where
+  begins : s .at ≡ placeOf e (q + 1)
+  begins = ap (λ (x : Stretch). x .at) h
+
+  counted : s .count ≡ min (e .per - q % e .per) (e .records - q)
+  counted = let t : q + 1 - 1 ≡ q = omega arith in rw t at (ap (λ (x : Stretch). x .count) h)
+
+  -- there is one at least, and no more than the set has
+  pub some-held : 1 ≤ s .count
+  some-held = omega (arith, counted, mod-lt q {m = e .per} (ok .per))
+
+  pub few-held : q + s .count ≤ e .records
+  few-held = omega (arith, counted)
+
+  -- they lie one behind the other, and in the base
+  pub stretch-along : (i : ℕ) → i < s .count → placeOf e (q + 1 + i) ≡ s .at + i * e .size
+  stretch-along i k = rw begins (place-along e q i (omega (arith, counted)))
+
+  pub stretch-inside : s .at + s .count * e .size ≤ n
+  stretch-inside =
+      let c = s .count in
+      let w : c ≡ c - 1 + 1 = omega (arith, some-held) in
+      omega (arith, stretch-along (c - 1) (omega (arith, some-held)), place-inside (q + 1 + (c - 1)) ok (omega arith, omega (arith, few-held)), ap (λ (m : ℕ). m * e .size) w)
+
+  -- where they are not the last, the next begin the next block
+  pub stretch-next : q + s .count < e .records → nextStretch e s (q + s .count) ≡ stretchFrom e (q + s .count + 1)
+  stretch-next m =
+      let w : s .count ≡ e .per - q % e .per = omega (arith, counted) in
+      let p : q + s .count + 1 - 1 ≡ q + s .count = omega arith in
+      let at : blockAt (blockWith (s .at) + 1) ≡ placeOf e (q + s .count + 1) = rw (begins, w, next-block q ok, block-of-record (q + 1) ok) refl in
+      let count : min (e .per) (e .records - (q + s .count)) ≡ stretchFrom e (q + s .count + 1) .count = rw (p, w, mod-past q (e .per) (ok .per), sub-zero (e .per)) refl in
+      rw (at, count) refl
+
+-- ---- the room behind the records of a block
+
+-- what is known of the k-th block of a set: a record of the set begins it, it is in the base, and its records end by byte 508
+pub record Held (e : Entry) (n k : ℕ) : Type 0 where
+  pub some : k * e .per < e .records
+  pub inside : blockAt (e .first .0 + k) + 512 ≤ n
+  pub whole : recordsHeld e k * e .size ≤ 508
+
+pub held : {e : Entry} {n : ℕ} (k : ℕ) → LiesIn e n → k < blocksHeld e → Held e n k
+held {e} {n} k ok l =
+    let p = ok .per in
+    let a : (k + 1) * e .per ≤ e .records + (e .per - 1) = le-div-iff-mul-le {k = e .per} {x = k + 1} (omega arith) .0 (omega arith) in
+    let s : k * e .per < e .records = omega arith in
+    let q : k ≤ (e .records - 1) / e .per = le-div-iff-mul-le {k = e .per} {x = k} (omega arith) .1 (omega arith) in
+    record {
+      some = s;
+      inside = omega (arith, ok .inside);
+      whole = omega (arith, ok .whole, mul-le-mul-right (e .size) (min-le-left (e .per) (e .records - k * e .per)));
+    }

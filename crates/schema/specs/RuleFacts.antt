@@ -12,7 +12,8 @@ use Rattle.octets.specs.BelowLaws.{allBelow-at}
 use Rattle.schema.specs.Fields.{mastersOf, variablesOf, setsOf, entryAt, nameOf, kindOf, countOf, recordsOf, keyLengthOf, lettersOf, masterOf}
 use Rattle.schema.specs.Rules.{isCapital, isCapitalOrDigit, nameRule, masterRule, variableRule, setRule, entryRule, namesRule, clash, lettersRule, formRule}
 use Rattle.schema.specs.Layout.{lengthOf, totalBlocks, sizeRule, keepsRules}
-use Rattle.schema.specs.FormFacts.{Formed, formed, entry-set}
+use Rattle.schema.specs.FormFacts.{formed, entry-set}
+use Rattle.schema.specs.Formed.{Formed}
 
 -- ---- the facts, part by part
 

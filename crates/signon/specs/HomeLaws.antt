@@ -1,7 +1,7 @@
 -- A master in its place, test by test: what the code was told, and what it answers.
 use Prim.Native.Nat.{ℕ, _≤_, _<_}
 use mathlib.Core.Path.{_≡_, refl, sym, _∙_}
-use mathlib.Core.Bool.{Bool, true, false, not, _&&_, _||_, and-eq-true-iff}
+use mathlib.Core.Bool.{Bool, true, false, not, _&&_, and-eq-true-iff}
 use mathlib.Core.List.{List}
 use lib.Dec.{eqb}
 use borrow.Author.Tests.{eq-eqb, ne-eqb, le-leb, lt-leb, not-true, not-false}
@@ -13,10 +13,7 @@ use Rattle.masters.specs.declared.Found.{Found}
 use Rattle.masters.specs.Find.{find, ownHome}
 use Rattle.masters.specs.FindLaws.{inSet-true}
 use Rattle.sound.specs.Linear.{foundAt, isOfHome, nextAnswers, priorEnds, masterInPlace}
-
--- what is asked of every record of a set of masters
-abbrev pub inPlaceAt : List ℕ → Entry → ℕ → Bool
-inPlaceAt b e r = not (isLive b e r) || masterInPlace b e r
+use Rattle.signon.specs.Judged.{inPlaceAt}
 
 pub not-live : (b : List ℕ) (e : Entry) (r : ℕ) {l : Bool} → l ≡ isLive b e r → not l ≡ true → true ≡ inPlaceAt b e r
 not-live b e r {l} el h = rw (← el, not-true l h) refl

@@ -1,4 +1,4 @@
-pub mod Facts
+pub mod Judged
 pub mod HomeLaws
 pub mod PointLaws
 pub mod SignOnLaws

@@ -1,7 +1,7 @@
 -- The ride along a chain, as the code makes it: a turn, the ways out and the end; and the sums that the chains of a path make.
 use Prim.Native.Nat.{ℕ, zero, suc, _+_, _≤_, _<_}
 use mathlib.Core.Path.{_≡_, refl, sym, _∙_}
-use mathlib.Core.Bool.{Bool, true, false, cond, not, _&&_, _||_, and-eq-true-iff}
+use mathlib.Core.Bool.{Bool, true, false, cond, not, _&&_, and-eq-true-iff}
 use mathlib.Core.List.{List}
 use native.Mathlib.Omega.{arith}
 use native.Mathlib.Numerals.{add-one}
@@ -16,22 +16,11 @@ use Rattle.schema.specs.declared.Entry.{Entry}
 use Rattle.schema.specs.Place.{InSet, inSet, placeOf}
 use Rattle.records.specs.Records.{isLive, masterKey, firstOn, lastOn, keyOn, priorOn, nextOn}
 use Rattle.masters.specs.FindLaws.{inSet-true}
-use Rattle.chains.specs.Chains.{isPointOf}
+use Rattle.points.specs.Chains.{isPointOf}
 use Rattle.sound.specs.Linear.{Ride, ride, pathRide, rideEnds, pointsOn, liveCount, pathInPlace}
 use Rattle.clean.specs.CleanLaws.{fails, ends}
-use Rattle.signon.specs.declared.points.Ridden.{Ridden}
-
--- what the code keeps of a ride
-abbrev pub rideOf : Ridden → Ride
-rideOf r = record { ok = r .ok; count = r .count; last = r .last }
-
--- the record r is a point of the key, and points back to q
-abbrev pub inOrder : List ℕ → Entry → Path → List ℕ → ℕ → ℕ → Bool
-inOrder b e p key q r = inSet e r && isPointOf b e p key r && eqb (priorOn b e r p) q
-
--- the ride along path p of set e, for the key, from r on
-unfoldable pub rideFrom : ℕ → List ℕ → Entry → Path → List ℕ → ℕ → ℕ → ℕ → Ride
-rideFrom fuel b e p key n q r = ride fuel (λ k. inSet e k && isPointOf b e p key k) (λ k. nextOn b e k p) (λ k. priorOn b e k p) n q r
+use Rattle.signon.specs.declared.on_points.Ridden.{Ridden}
+use Rattle.signon.specs.Judged.{rideOf, inOrder, rideFrom, chainEnds, chainCount}
 
 -- ---- one record
 
@@ -118,14 +107,7 @@ module _ (b : List ℕ) (e : Entry) (p : Path) (x : Entry) (m : ℕ) where
   pathRide-count : pathRide b e p x m .count ≤ e .records
   pathRide-count = rw (sym (pathRide-is refl refl)) (omega (arith, ride-count b e p (masterKey b x m) (e .records) 0 0 (firstOn b x m p)))
 
-  -- what the master adds to the judgement of the path
-  abbrev pub chainEnds : Bool
-  chainEnds = not (isLive b x m) || rideEnds b e p x m
-
-  abbrev pub chainCount : ℕ
-  chainCount = cond (isLive b x m) (pathRide b e p x m .count) 0
-
-  pub chain-count : chainCount ≤ e .records
+  pub chain-count : chainCount b e p x m ≤ e .records
   chain-count = by (isLive b x m)
     where
       by : (l : Bool) → cond l (pathRide b e p x m .count) 0 ≤ e .records
@@ -133,11 +115,11 @@ module _ (b : List ℕ) (e : Entry) (p : Path) (x : Entry) (m : ℕ) where
       by false = omega arith
 
   module _ {l : Bool} (el : l ≡ isLive b x m) where
-    pub chain-none : not l ≡ true → (true ≡ chainEnds) × (0 ≡ chainCount)
+    pub chain-none : not l ≡ true → (true ≡ chainEnds b e p x m) × (0 ≡ chainCount b e p x m)
     chain-none h = rw (← el, not-true l h) (refl, refl)
 
     pub chain-some : not l ≡ false → {r : Ridden} → rideOf r ≡ pathRide b e p x m → {z : ℕ} → z ≡ lastOn b x m p
-        → ((r .ok && eqb (r .last) z) ≡ chainEnds) × (r .count ≡ chainCount)
+        → ((r .ok && eqb (r .last) z) ≡ chainEnds b e p x m) × (r .count ≡ chainCount b e p x m)
     unfolding rideEnds
     chain-some h er ez = rw (← el, not-false l h, ← er, ez) (refl, refl)
 

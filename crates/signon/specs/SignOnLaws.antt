@@ -10,13 +10,7 @@ use Rattle.schema.specs.declared.Schema.{Schema}
 use Rattle.schema.specs.Decode.{entryOf, pathOf}
 use Rattle.sound.specs.Sound.{setClean}
 use Rattle.sound.specs.Linear.{mastersInPlace, pathInPlace, pathsInPlace, setInPlace}
-
--- path j of the set e, and set i of the schema, are in place
-abbrev pub pathPlaced : Schema → List ℕ → Entry → ℕ → Bool
-pathPlaced t b e j = pathInPlace b e (pathOf e j) (entryOf t (pathOf e j .master .0))
-
-abbrev pub setPlaced : Schema → List ℕ → ℕ → Bool
-setPlaced t b i = setInPlace t b (entryOf t i)
+use Rattle.signon.specs.Judged.{pathPlaced, setPlaced}
 
 -- what the code was told of a path that it read, and of a set
 pub path-read : (t : Schema) (b : List ℕ) (e : Entry) (j : ℕ) {p : Path} {x : Entry} {o : Bool} → p ≡ pathOf e j → x ≡ entryOf t (p .master .0)

@@ -8,17 +8,15 @@ use schema::layout::entry_of;
 use schema::layout::path_of;
 use terms::EntryNo;
 ghost use mathlib.Core.Path.{_≡_};
-ghost use Prim.Native.Nat.{_*_};
 ghost use lib.ListN.{length};
 ghost use Rattle.octets.specs.Below.{allBelow};
 ghost use Rattle.schema.specs.Decode.{setCount};
-ghost use Rattle.schema.specs.Guarantee.{SchemaOk};
 ghost use Rattle.sound.specs.Linear.{pathsInPlace, setInPlace, inPlace};
-ghost use Rattle.signon.specs.Facts.{VariableIn, SetIn};
-ghost use Rattle.signon.specs.SignOnLaws.{setPlaced};
+ghost use Rattle.records.specs.InBase.{Laid, IsSetOf, VariableIn};
+ghost use Rattle.signon.specs.Judged.{setPlaced};
 
-pub mod homes;
-pub mod points;
+pub mod on_masters;
+pub mod on_points;
 
 // Every path of a variable set.
 fn paths_in_place(base: &[u8], t: Schema, e: Entry) -> bool
@@ -30,7 +28,7 @@ fn paths_in_place(base: &[u8], t: Schema, e: Entry) -> bool
     while j < n {
         let p = path_of(e, j);
         let x = entry_of(t, p.master);
-        if !points::path_in_place(base, e, p, x) {
+        if !on_points::path_in_place(base, e, p, x) {
             return false;
         }
         j += 1;
@@ -39,21 +37,20 @@ fn paths_in_place(base: &[u8], t: Schema, e: Entry) -> bool
 }
 
 fn set_in_place(base: &[u8], t: Schema, e: Entry) -> bool
-    requires { ⌜ SetIn t e (length (now base)) ⌝ }
+    requires { ⌜ IsSetOf t e (length (now base)) ⌝ }
     ensures { λ o. ⌜ o ≡ setInPlace t (now (base .entry)) e ⌝ }
 {
     if !set_clean(base, e) {
         return false;
     }
     if e.kind == 1 {
-        return homes::masters_in_place(base, e);
+        return on_masters::masters_in_place(base, e);
     }
     paths_in_place(base, t, e)
 }
 
 fn sets_in_place(base: &[u8], t: Schema) -> bool
-    requires { ⌜ SchemaOk t ⌝ }
-    requires { ⌜ length (now base) ≡ t .blocks * 512 ⌝ }
+    requires { ⌜ Laid t (length (now base)) ⌝ }
     ensures { λ o. ⌜ o ≡ allBelow (setPlaced t (now (base .entry))) (setCount t) ⌝ }
 {
     let n = t.masters + t.variables;
@@ -70,8 +67,7 @@ fn sets_in_place(base: &[u8], t: Schema) -> bool
 
 // "SINON gives 16 exactly if the data base is not sound"
 pub fn sign_on(base: &[u8], t: Schema) -> bool
-    requires { ⌜ SchemaOk t ⌝ }
-    requires { ⌜ length (now base) ≡ t .blocks * 512 ⌝ }
+    requires { ⌜ Laid t (length (now base)) ⌝ }
     ensures { λ o. ⌜ o ≡ inPlace t (now (base .entry)) ⌝ }
 {
     if !checks_true(base, t) {

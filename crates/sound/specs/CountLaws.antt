@@ -20,7 +20,7 @@ use Rattle.sound.specs.Linear.{Ride, pathRide, rideEnds, pointsOn, liveC
 use Rattle.sound.specs.SoundLaws.{eachRecord-at}
 use Rattle.sound.specs.ListLaws.{where-holds, holds-where, eachRecord-all, recordsWith-in, in-recordsWith, nodup-recordsWith, length-recordsWith}
 use Rattle.sound.specs.KeyLaws.{Live, MasterSet}
-use Rattle.sound.specs.RideLaws.{Point, IsChainOf, chain-nodup, ride-is, chain-rides, rides-chain}
+use Rattle.sound.specs.RideLaws.{PointOf, IsChainOf, chain-nodup, ride-is, chain-rides, rides-chain}
 use Rattle.sound.specs.PathLaws.{PathSet, pathSet-says, pathSet-holds, point-live, live-point}
 
 -- ---- all chains of a path
@@ -40,7 +40,7 @@ Chains b e p x = (m : ℕ) → Live b x m → IsChainOf b e p x m (pathList b e 
 
 -- a record on the chains is on the chain of a master that has its key
 abbrev Chained : List ℕ → Entry → Path → Entry → ℕ → Type 0
-Chained b e p x r = (m : ℕ) × Live b x m × In r (pathList b e p x m) × Point b e p x m r
+Chained b e p x r = (m : ℕ) × Live b x m × In r (pathList b e p x m) × PointOf b e p x m r
 
 module _ (b : List ℕ) (e : Entry) (p : Path) (x : Entry) (c : Chains b e p x) where
   row-live : (k r : ℕ) → k < x .records → In r (row b e p x k) → Live b x (k + 1) × In r (pathList b e p x (k + 1))
@@ -54,7 +54,7 @@ module _ (b : List ℕ) (e : Entry) (p : Path) (x : Entry) (c : Chains b e p x) 
   chained r i =
       let t = gathered-in (row b e p x) (x .records) r i in
       let l = row-live (t .0) r (t .1) (t .2) in
-      (t .0 + 1, l .0, l .1, all-in (Point b e p x (t .0 + 1)) r (pathList b e p x (t .0 + 1)) (c (t .0 + 1) (l .0) .points) (l .1))
+      (t .0 + 1, l .0, l .1, all-in (PointOf b e p x (t .0 + 1)) r (pathList b e p x (t .0 + 1)) (c (t .0 + 1) (l .0) .points) (l .1))
 
   chains-live : (r : ℕ) → In r (onChains b e p x) → In r (lives b e)
   chains-live r i = let t = chained r i in let l = point-live b e p x (t .0) r (t .3) .0 in in-recordsWith e (isLive b e) r (l .0) (l .1)
@@ -73,7 +73,7 @@ module _ (b : List ℕ) (e : Entry) (p : Path) (x : Entry) (c : Chains b e p x) 
       each k l false q = tt
 
       keyed : (m r : ℕ) → Live b x m → In r (pathList b e p x m) → keyOn b e r p ≡ masterKey b x m
-      keyed m r l i = point-live b e p x m r (all-in (Point b e p x m) r (pathList b e p x m) (c m l .points) i) .1
+      keyed m r l i = point-live b e p x m r (all-in (PointOf b e p x m) r (pathList b e p x m) (c m l .points) i) .1
 
   -- the number of points that the rides met
   chains-length : pointsOn b e p x (x .records) ≡ length (onChains b e p x)

@@ -10,7 +10,7 @@ use lib.Dec.{eqb}
 use lib.ListN.{length}
 use borrow.Author.Tests.{eqb-true, eq-eqb, ne-eqb}
 use Rattle.octets.specs.Octets.{sameBytes}
-use Rattle.octets.specs.BelowLaws.{never-both}
+use Rattle.octets.specs.TestLaws.{never-both}
 use Rattle.octets.specs.RunLaws.{sameBytes-eq, sameBytes-refl}
 use Rattle.schema.specs.declared.Entry.{Entry}
 use Rattle.schema.specs.Place.{inSet}

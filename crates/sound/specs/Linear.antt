@@ -17,7 +17,7 @@ use Rattle.records.specs.Records.{isLive, rootNext, rootPrior, masterKey, first
 use Rattle.records.specs.Areas.{isMaster}
 use Rattle.masters.specs.declared.Found.{Found}
 use Rattle.masters.specs.Find.{find, isAt, recordFound, ownHome}
-use Rattle.chains.specs.Chains.{isPointOf}
+use Rattle.points.specs.Chains.{isPointOf}
 use Rattle.sound.specs.Sound.{eachRecord, checksTrue, setClean}
 
 -- ---- masters

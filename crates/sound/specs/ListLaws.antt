@@ -10,20 +10,16 @@ use lib.Dec.{eqb, leb}
 use lib.ListN.{length}
 use borrow.Author.Tests.{eqb-true, eq-eqb, le-leb}
 use Rattle.octets.specs.Below.{allBelow, sumBelow, countBelow}
-use Rattle.octets.specs.BelowLaws.{never-both, allBelow-all, sumBelow-same}
+use Rattle.octets.specs.BelowLaws.{allBelow-all, sumBelow-same}
+use Rattle.octets.specs.TestLaws.{never-both, either}
 use Rattle.schema.specs.declared.Entry.{Entry}
 use Rattle.schema.specs.Place.{InSet, inSet}
-use Rattle.masters.specs.FindLaws.{inSet-true}
 use Rattle.chains.specs.Members.{All, all-map, In, NoDup, in-gathered, gathered-in, length-gathered, nodup-gathered}
-use Rattle.chains.specs.Segments.{NoZero, lastOr, Run, run-nodup, run-agree, Answers, answers-agree, Seg, seg-run, seg-answers, run-seg, at-ends, headed, headed-at}
+use Rattle.chains.specs.Segments.{NoZero, lastOr, Run, run-nodup, run-agree, LooksBack, answers-agree, Seg, seg-run, seg-answers, run-seg, at-ends, headed, headed-at}
 use Rattle.sound.specs.Sound.{eachRecord, recordsWith, isIn, within, follow, isChain, lastOf}
 use Rattle.sound.specs.SoundLaws.{Linked}
 
 -- ---- tests
-
-pub either : (a b : Bool) → (a || b) ≡ true → (a ≡ true) ⊎ (b ≡ true)
-either true b h = inl refl
-either false b h = inr h
 
 pub either-left : (a b : Bool) → a ≡ true → (a || b) ≡ true
 either-left a b h = rw h
@@ -164,11 +160,11 @@ module _ (next prior : ℕ → ℕ) where
   linked-run r [] h = h
   linked-run r (q ∷ rs) h = (h .0, linked-run q rs (h .2))
 
-  pub linked-answers : (p head : ℕ) (rs : List ℕ) → Linked next prior p head rs → Answers prior p rs
+  pub linked-answers : (p head : ℕ) (rs : List ℕ) → Linked next prior p head rs → LooksBack prior p rs
   linked-answers p head [] h = tt
   linked-answers p head (r ∷ rs) h = (h .1, linked-answers r (next r) rs (h .2))
 
-  pub run-linked : (r : ℕ) (rs : List ℕ) → Run next r rs → Answers prior r rs → Linked next prior r (next r) rs
+  pub run-linked : (r : ℕ) (rs : List ℕ) → Run next r rs → LooksBack prior r rs → Linked next prior r (next r) rs
   run-linked r [] s a = s
   run-linked r (q ∷ rs) s a = (s .0, a .0, run-linked q rs (s .1) (a .1))
 
@@ -192,15 +188,6 @@ module _ (next prior : ℕ → ℕ) where
   follow-linked (suc n) e p head [] h s l = rw h refl
   follow-linked (suc n) e p head (r ∷ rs) h s l =
       rw (h .0, in-set-test e r (s .0)) (ap (λ zs. r ∷ zs) (follow-linked n e r (next r) rs (h .2) (s .1) (omega arith)))
-
-pub follow-in : (n : ℕ) (e : Entry) (next : ℕ → ℕ) (r : ℕ) → All (InSet e) (follow n e next r)
-unfolding follow
-follow-in zero e next r = tt
-follow-in (suc n) e next r = by (inSet e r) refl (follow-in n e next (next r))
-  where
-    by : (t : Bool) → inSet e r ≡ t → All (InSet e) (follow n e next (next r)) → All (InSet e) (cond t (r ∷ follow n e next (next r)) [])
-    by true q h = (inSet-true e r q, h)
-    by false q h = tt
 
 -- such a list is a segment from the head to the head, in the words of Segments; first and last are the head's pointers
 pub linked-seg : (next prior : ℕ → ℕ) (first last : ℕ) (rs : List ℕ) → Linked next prior 0 first rs → last ≡ lastOr 0 rs → NoZero rs

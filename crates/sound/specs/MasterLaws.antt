@@ -19,17 +19,18 @@ use Rattle.masters.specs.declared.Found.the-variants.{Missing}
 use Rattle.masters.specs.Find.{homeIn, ownHome, heldByOwn, seek, find, recordFound}
 use Rattle.masters.specs.FindLaws.{inSet-true}
 use Rattle.chains.specs.Members.{All, In, all-map, all-in, pigeonhole}
-use Rattle.chains.specs.Segments.{walk-ends}
+use Rattle.chains.specs.Segments.{walk-runs-out}
 use Rattle.sound.specs.Sound.{follow, homeList, masterSetSound}
 use Rattle.sound.specs.Linear.{foundAt, isOfHome, nextAnswers, priorEnds, masterInPlace, mastersInPlace}
 use Rattle.sound.specs.SoundLaws.{eachRecord-at, Linked, follow-length}
-use Rattle.sound.specs.ListLaws.{either, either-left, either-right, where-holds, holds-where, in-set-test, eachRecord-all, run-linked, linked-nodup, linked-next, follow-linked}
+use Rattle.sound.specs.ListLaws.{either-left, either-right, where-holds, holds-where, in-set-test, eachRecord-all, run-linked, linked-nodup, linked-next, follow-linked}
+use Rattle.octets.specs.TestLaws.{either}
 use Rattle.sound.specs.KeyLaws.{Live, MasterSet, masterSet-says, masterSet-holds}
 use Rattle.sound.specs.HomeLaws.{FoundAt, foundAt-says, foundAt-holds, seek-follow, seek-linked, OfHome, HomeChain, homeSound-says, homeSound-holds}
 
 -- ---- one master in its place
 
-pub record Placed (b : List ℕ) (e : Entry) (r : ℕ) : Type 0 where
+pub record FoundInPlace (b : List ℕ) (e : Entry) (r : ℕ) : Type 0 where
   pub no-blank : allBlank (masterKey b e r) ≡ false
   pub found : FoundAt (find b e (masterKey b e r)) r
   pub next : (rootNext b e r ≡ 0) ⊎ (OfHome b e (ownHome b e r) (rootNext b e r) × (rootPrior b e (rootNext b e r) ≡ r))
@@ -60,7 +61,7 @@ module _ (b : List ℕ) (e : Entry) (r : ℕ) where
       either-right (eqb n 0) (isOfHome b e h n && eqb (rootPrior b e n) r)
       (rw (in-set-test e n (o .0 .0 .0), o .0 .0 .1, eq-eqb (ownHome b e n) h (o .0 .1)) (eq-eqb _ _ (o .1)))
 
-  placed-says : masterInPlace b e r ≡ true → Placed b e r
+  placed-says : masterInPlace b e r ≡ true → FoundInPlace b e r
   unfolding masterInPlace priorEnds
   placed-says t =
       let blank = not (allBlank (masterKey b e r)) in
@@ -75,7 +76,7 @@ module _ (b : List ℕ) (e : Entry) (r : ℕ) where
         prior = λ q. eqb-true _ _ (where-holds (eqb r h) (eqb (rootPrior b e r) 0) (a .1) (eq-eqb _ _ q));
       }
 
-  placed-holds : Placed b e r → masterInPlace b e r ≡ true
+  placed-holds : FoundInPlace b e r → masterInPlace b e r ≡ true
   unfolding masterInPlace priorEnds
   placed-holds s =
       rw (s .no-blank, foundAt-holds (find b e (masterKey b e r)) r (s .found), next-holds (s .next))
@@ -108,7 +109,7 @@ module _ (b : List ℕ) (e : Entry) (h : ℕ) where
 
 -- ---- in place, so sound
 
-module _ (b : List ℕ) (e : Entry) (some : 1 ≤ e .records) (placed : (r : ℕ) → Live b e r → Placed b e r) where
+module _ (b : List ℕ) (e : Entry) (some : 1 ≤ e .records) (placed : (r : ℕ) → Live b e r → FoundInPlace b e r) where
   placed-full : (h r : ℕ) → OfHome b e h r → In r (homeList b e h)
   placed-full h r o =
       let f = found-held b e h (masterKey b e r) r (o .1) (placed r (o .0) .found) in
@@ -123,7 +124,7 @@ module _ (b : List ℕ) (e : Entry) (some : 1 ≤ e .records) (placed : (r : ℕ
       let i : InSet e h = rw q at (home-in-set (e .records) (masterKey b e h) some) in
       let o : OfHome b e h h = ((i, a .0), q) in
       let z : rootPrior b e h ≡ 0 = placed h (i, a .0) .prior (sym q) in
-      let w = walk-ends (rootNext b e) (rootPrior b e) (OfHome b e h) (e .records) (λ r o. o .0 .0) (λ r o. rw (o .1) at (placed r (o .0) .next)) h o z in
+      let w = walk-runs-out (rootNext b e) (rootPrior b e) (OfHome b e h) (e .records) (λ r o. o .0 .0) (λ r o. rw (o .1) at (placed r (o .0) .next)) h o z in
       (h ∷ w .0, (refl, z, run-linked (rootNext b e) (rootPrior b e) h (w .0) (w .1) (w .2)), (o, w .3))
 
   held-chain : (h : ℕ) → heldByOwn b e h ≡ true → (rs : List ℕ) → Linked (rootNext b e) (rootPrior b e) 0 h rs → All (OfHome b e h) rs → HomeChain b e h
@@ -175,7 +176,7 @@ module _ (b : List ℕ) (e : Entry) (some : 1 ≤ e .records) (ms : MasterSet b 
   first-prior [] k m = absurd m
   first-prior (q ∷ rs) k m = rw (k .0) (k .1)
 
-  pub sound-placed : Placed b e r
+  pub sound-placed : FoundInPlace b e r
   sound-placed = record {
     no-blank = ms .no-blank r l;
     found = held-found b e home (masterKey b e r) r refl held

@@ -7,18 +7,18 @@ use mathlib.Core.List.{List}
 use lib.Dec.{eqb}
 use borrow.Author.Tests.{eqb-true, eq-eqb, not-true, not-false}
 use Rattle.octets.specs.Octets.{allBlank, sameBytes}
-use Rattle.octets.specs.BelowLaws.{never-both}
+use Rattle.octets.specs.TestLaws.{never-both}
 use Rattle.octets.specs.RunLaws.{refuted, sameBytes-eq, eq-sameBytes}
 use Rattle.schema.specs.declared.Path.{Path}
 use Rattle.schema.specs.declared.Entry.{Entry}
 use Rattle.records.specs.Records.{isLive, masterKey, keyOn, firstOn, lastOn, priorOn, nextOn}
-use Rattle.chains.specs.Chains.{isPointOf}
+use Rattle.points.specs.Chains.{isPointOf}
 use Rattle.chains.specs.Members.{In, all-in, in-all}
 use Rattle.sound.specs.Sound.{eachRecord, recordsWith, within, sameRecords, isChain, lastOf, pathList, pathSound, hasMaster, variablePathSound}
 use Rattle.sound.specs.SoundLaws.{eachRecord-at, chain-linked}
 use Rattle.sound.specs.ListLaws.{where-holds, holds-where, within-in, in-within, eachRecord-all, eachRecord-some, recordsWith-in, in-recordsWith, linked-chain, lastOf-is}
 use Rattle.sound.specs.KeyLaws.{Live}
-use Rattle.sound.specs.RideLaws.{Point, IsChainOf}
+use Rattle.sound.specs.RideLaws.{PointOf, IsChainOf}
 
 -- ---- the chain of one master
 
@@ -36,7 +36,7 @@ module _ (b : List ℕ) (e : Entry) (p : Path) (x : Entry) (m : ℕ) where
   points = recordsWith e (isPointOf b e p (masterKey b x m))
 
   -- "one two-way chain from first to last, 0 at both ends, holding exactly the live records of that key"
-  pub pathSound-says : pathSound b e p x m ≡ true → IsChainOf b e p x m (pathList b e p x m) × ((r : ℕ) → Point b e p x m r → In r (pathList b e p x m))
+  pub pathSound-says : pathSound b e p x m ≡ true → IsChainOf b e p x m (pathList b e p x m) × ((r : ℕ) → PointOf b e p x m r → In r (pathList b e p x m))
   unfolding pathSound
   pathSound-says h =
       let a = and-eq-true-iff (isChain next prior 0 (firstOn b x m p) list && eqb (lastOn b x m p) (lastOf list)) (sameRecords list points) .0 h in
@@ -45,19 +45,19 @@ module _ (b : List ℕ) (e : Entry) (p : Path) (x : Entry) (m : ℕ) where
         record {
           linked = chain-linked next prior 0 (firstOn b x m p) list (c .0);
           last = eqb-true _ _ (c .1) ∙ lastOf-is list;
-          points = in-all (Point b e p x m) list (λ r i. recordsWith-in e (isPointOf b e p (masterKey b x m)) r (within-in list points (s .0) r i));
+          points = in-all (PointOf b e p x m) list (λ r i. recordsWith-in e (isPointOf b e p (masterKey b x m)) r (within-in list points (s .0) r i));
         },
         λ r q. within-in points list (s .1) r (in-recordsWith e (isPointOf b e p (masterKey b x m)) r (q .0) (q .1)),
       )
 
-  pub pathSound-holds : IsChainOf b e p x m (pathList b e p x m) → ((r : ℕ) → Point b e p x m r → In r (pathList b e p x m)) → pathSound b e p x m ≡ true
+  pub pathSound-holds : IsChainOf b e p x m (pathList b e p x m) → ((r : ℕ) → PointOf b e p x m r → In r (pathList b e p x m)) → pathSound b e p x m ≡ true
   unfolding pathSound
   pathSound-holds c f =
       and-eq-true-iff (isChain next prior 0 (firstOn b x m p) list && eqb (lastOn b x m p) (lastOf list)) (sameRecords list points) .1 (
         and-eq-true-iff (isChain next prior 0 (firstOn b x m p) list) (eqb (lastOn b x m p) (lastOf list)) .1
             (linked-chain next prior 0 (firstOn b x m p) list (c .linked), eq-eqb _ _ (c .last ∙ sym (lastOf-is list))),
         and-eq-true-iff (within list points) (within points list) .1 (
-          in-within list points (λ r i. let q = all-in (Point b e p x m) r list (c .points) i in in-recordsWith e (isPointOf b e p (masterKey b x m)) r (q .0) (q .1)),
+          in-within list points (λ r i. let q = all-in (PointOf b e p x m) r list (c .points) i in in-recordsWith e (isPointOf b e p (masterKey b x m)) r (q .0) (q .1)),
           in-within points list (λ r i. f r (recordsWith-in e (isPointOf b e p (masterKey b x m)) r i)),
         ),
       )
@@ -81,12 +81,12 @@ module _ (b : List ℕ) (x : Entry) (key : List ℕ) where
 
 -- ---- a point of a master is a live record with its key
 
-pub point-live : (b : List ℕ) (e : Entry) (p : Path) (x : Entry) (m r : ℕ) → Point b e p x m r → Live b e r × (keyOn b e r p ≡ masterKey b x m)
+pub point-live : (b : List ℕ) (e : Entry) (p : Path) (x : Entry) (m r : ℕ) → PointOf b e p x m r → Live b e r × (keyOn b e r p ≡ masterKey b x m)
 point-live b e p x m r h =
     let t = and-eq-true-iff (isLive b e r) (sameBytes (keyOn b e r p) (masterKey b x m)) .0 (h .1) in
     ((h .0, t .0), sameBytes-eq _ _ (t .1))
 
-pub live-point : (b : List ℕ) (e : Entry) (p : Path) (x : Entry) (m r : ℕ) → Live b e r → keyOn b e r p ≡ masterKey b x m → Point b e p x m r
+pub live-point : (b : List ℕ) (e : Entry) (p : Path) (x : Entry) (m r : ℕ) → Live b e r → keyOn b e r p ≡ masterKey b x m → PointOf b e p x m r
 live-point b e p x m r l k = (l .0, and-eq-true-iff (isLive b e r) (sameBytes (keyOn b e r p) (masterKey b x m)) .1 (l .1, eq-sameBytes _ _ k))
 
 -- ---- the whole path
@@ -95,7 +95,7 @@ pub record PathSet (b : List ℕ) (e : Entry) (p : Path) (x : Entry) : Type 0 wh
   pub no-blank : (r : ℕ) → Live b e r → allBlank (keyOn b e r p) ≡ false
   pub master : (r : ℕ) → Live b e r → (m : ℕ) × Live b x m × (masterKey b x m ≡ keyOn b e r p)
   pub chain : (m : ℕ) → Live b x m → IsChainOf b e p x m (pathList b e p x m)
-  pub full : (m : ℕ) → Live b x m → (r : ℕ) → Point b e p x m r → In r (pathList b e p x m)
+  pub full : (m : ℕ) → Live b x m → (r : ℕ) → PointOf b e p x m r → In r (pathList b e p x m)
 
 module _ (b : List ℕ) (e : Entry) (p : Path) (x : Entry) where
   abbrev keyed? : ℕ → Bool

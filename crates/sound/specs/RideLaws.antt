@@ -9,13 +9,13 @@ use native.Mathlib.Omega.{arith}
 use lib.Dec.{eqb}
 use lib.ListN.{length}
 use borrow.Author.Tests.{eqb-true, eqb-false, eq-eqb, ne-eqb}
-use Rattle.octets.specs.BelowLaws.{never-both}
+use Rattle.octets.specs.TestLaws.{never-both}
 use Rattle.schema.specs.declared.Path.{Path}
 use Rattle.schema.specs.declared.Entry.{Entry}
 use Rattle.schema.specs.Place.{InSet, inSet}
 use Rattle.records.specs.Records.{masterKey, firstOn, lastOn, priorOn, nextOn}
 use Rattle.masters.specs.FindLaws.{inSet-true}
-use Rattle.chains.specs.Chains.{isPointOf}
+use Rattle.points.specs.Chains.{isPointOf}
 use Rattle.chains.specs.Members.{All, NoDup, all-map, pigeonhole}
 use Rattle.chains.specs.Segments.{lastOr}
 use Rattle.sound.specs.Sound.{pathList}
@@ -65,34 +65,34 @@ module _ (good : ℕ → Bool) (next prior : ℕ → ℕ) where
 
 module _ (b : List ℕ) (e : Entry) (p : Path) (x : Entry) where
   -- the record r stands on the master's chain
-  abbrev pub Point : ℕ → ℕ → Type 0
-  Point m r = InSet e r × (isPointOf b e p (masterKey b x m) r ≡ true)
+  abbrev pub PointOf : ℕ → ℕ → Type 0
+  PointOf m r = InSet e r × (isPointOf b e p (masterKey b x m) r ≡ true)
 
 -- the list is the chain of the master in record m
 pub record IsChainOf (b : List ℕ) (e : Entry) (p : Path) (x : Entry) (m : ℕ) (rs : List ℕ) : Type 0 where
   pub linked : Linked (λ r. nextOn b e r p) (λ r. priorOn b e r p) 0 (firstOn b x m p) rs
   pub last : lastOn b x m p ≡ lastOr 0 rs
-  pub points : All (Point b e p x m) rs
+  pub points : All (PointOf b e p x m) rs
 
 module _ (b : List ℕ) (e : Entry) (p : Path) (x : Entry) (m : ℕ) where
   pub chain-nodup : (rs : List ℕ) → IsChainOf b e p x m rs → NoDup rs
-  chain-nodup rs c = linked-nodup _ _ 0 (firstOn b x m p) rs (c .linked) (all-map (Point b e p x m) (λ r. 1 ≤ r) (λ r h. h .0 .0) rs (c .points))
+  chain-nodup rs c = linked-nodup _ _ 0 (firstOn b x m p) rs (c .linked) (all-map (PointOf b e p x m) (λ r. 1 ≤ r) (λ r h. h .0 .0) rs (c .points))
 
   chain-short : (rs : List ℕ) → IsChainOf b e p x m rs → length rs ≤ e .records
-  chain-short rs c = pigeonhole (e .records) rs (chain-nodup rs c) (all-map (Point b e p x m) _ (λ r h. h .0) rs (c .points))
+  chain-short rs c = pigeonhole (e .records) rs (chain-nodup rs c) (all-map (PointOf b e p x m) _ (λ r h. h .0) rs (c .points))
 
   -- it is the list that `next` leads to
   pub chain-is : (rs : List ℕ) → IsChainOf b e p x m rs → pathList b e p x m ≡ rs
   unfolding pathList
-  chain-is rs c = follow-linked _ _ (e .records) e 0 (firstOn b x m p) rs (c .linked) (all-map (Point b e p x m) (InSet e) (λ r h. h .0) rs (c .points)) (chain-short rs c)
+  chain-is rs c = follow-linked _ _ (e .records) e 0 (firstOn b x m p) rs (c .linked) (all-map (PointOf b e p x m) (InSet e) (λ r h. h .0) rs (c .points)) (chain-short rs c)
 
   abbrev good : ℕ → Bool
   good r = inSet e r && isPointOf b e p (masterKey b x m) r
 
-  good-point : (r : ℕ) → good r ≡ true → Point b e p x m r
+  good-point : (r : ℕ) → good r ≡ true → PointOf b e p x m r
   good-point r h = let t = and-eq-true-iff (inSet e r) (isPointOf b e p (masterKey b x m) r) .0 h in (inSet-true e r (t .0), t .1)
 
-  point-good : (r : ℕ) → Point b e p x m r → (1 ≤ r) × (good r ≡ true)
+  point-good : (r : ℕ) → PointOf b e p x m r → (1 ≤ r) × (good r ≡ true)
   point-good r h = (h .0 .0, and-eq-true-iff (inSet e r) (isPointOf b e p (masterKey b x m) r) .1 (in-set-test e r (h .0), h .1))
 
   -- the ride along it
@@ -100,7 +100,7 @@ module _ (b : List ℕ) (e : Entry) (p : Path) (x : Entry) (m : ℕ) where
   unfolding pathRide
   ride-is rs c =
       let z : 0 + length rs ≡ length rs = omega arith in
-      rw z at (ride-linked good (λ r. nextOn b e r p) (λ r. priorOn b e r p) (e .records) 0 0 (firstOn b x m p) rs (c .linked) (all-map (Point b e p x m) _ point-good rs (c .points)) (chain-short rs c))
+      rw z at (ride-linked good (λ r. nextOn b e r p) (λ r. priorOn b e r p) (e .records) 0 0 (firstOn b x m p) rs (c .linked) (all-map (PointOf b e p x m) _ point-good rs (c .points)) (chain-short rs c))
 
   pub chain-rides : (rs : List ℕ) → IsChainOf b e p x m rs → rideEnds b e p x m ≡ true
   unfolding rideEnds
@@ -113,7 +113,7 @@ module _ (b : List ℕ) (e : Entry) (p : Path) (x : Entry) (m : ℕ) where
       let pv : ℕ → ℕ = λ r. priorOn b e r p in
       let w = ride-ok good nx pv (e .records) 0 0 (firstOn b x m p) h in
       let q = ap (λ (z : Ride). z .last) (ride-linked good nx pv (e .records) 0 0 (firstOn b x m p) (w .0) (w .1) (w .2) (w .3)) in
-      (w .0, record { linked = w .1; last = sym l ∙ q; points = all-map _ (Point b e p x m) (λ r g. good-point r (g .1)) (w .0) (w .2) })
+      (w .0, record { linked = w .1; last = sym l ∙ q; points = all-map _ (PointOf b e p x m) (λ r g. good-point r (g .1)) (w .0) (w .2) })
 
   pub rides-chain : rideEnds b e p x m ≡ true → IsChainOf b e p x m (pathList b e p x m)
   unfolding rideEnds

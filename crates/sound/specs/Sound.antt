@@ -1,21 +1,21 @@
 -- Document 01, "The final 16": "SINON gives 16 exactly if the data base is not sound", clause by clause, chain by chain. Chains are lists
 -- got by following pointers, sets of records are lists of numbers. `t` is the schema, `b` a data base of its length.
-use Prim.Native.Nat.{ℕ, zero, suc, _+_, _*_, _-_, _/_, min}
+use Prim.Native.Nat.{ℕ, zero, suc, _+_}
 use mathlib.Core.Bool.{Bool, true, false, cond, not, _&&_, _||_}
 use mathlib.Core.List.{List, [], _∷_}
 use lib.Dec.{eqb, leb}
 use Rattle.octets.specs.Octets.{run, allZero, allBlank, sameBytes}
 use Rattle.octets.specs.Below.{allBelow, concatBelow}
-use Rattle.blocks.specs.Blocks.{blockAt, isSealed}
+use Rattle.blocks.specs.Blocks.{isSealed}
 use Rattle.schema.specs.declared.Path.{Path}
 use Rattle.schema.specs.declared.Entry.{Entry}
 use Rattle.schema.specs.declared.Schema.{Schema}
 use Rattle.schema.specs.Decode.{entryOf, pathOf, setCount}
-use Rattle.schema.specs.Place.{inSet, placeOf, recordOf}
+use Rattle.schema.specs.Place.{inSet, placeOf, recordOf, blocksHeld, leftoverOf}
 use Rattle.records.specs.Records.{isLive, rootNext, rootPrior, masterKey, firstOn, lastOn, keyOn, priorOn, nextOn}
 use Rattle.records.specs.Areas.{isMaster}
 use Rattle.masters.specs.Find.{ownHome, heldByOwn}
-use Rattle.chains.specs.Chains.{isPointOf}
+use Rattle.points.specs.Chains.{isPointOf}
 
 -- ---- for each, and is there one
 
@@ -50,17 +50,9 @@ checksTrue t b = allBelow (isSealed b) (t .blocks)
 unfoldable pub recordClean : List ℕ → Entry → ℕ → Bool
 recordClean b e r = cond (isLive b e r) (allZero (run b (placeOf e r + 1) 3)) (allZero (recordOf b e r))
 
--- how many blocks a set has, and how many records its k-th block holds
-abbrev pub blocksHeld : Entry → ℕ
-blocksHeld e = (e .records + (e .per - 1)) / e .per
-
-abbrev pub recordsHeld : Entry → ℕ → ℕ
-recordsHeld e k = min (e .per) (e .records - k * e .per)
-
 -- "Room after records is zero.": the k-th block of the set, behind its records and in front of its check
 unfoldable pub leftoverClean : List ℕ → Entry → ℕ → Bool
-leftoverClean b e k =
-    allZero (run b (blockAt (e .first .0 + k) + recordsHeld e k * e .size) (508 - recordsHeld e k * e .size))
+leftoverClean b e k = allZero (leftoverOf b e k)
 
 unfoldable pub setClean : List ℕ → Entry → Bool
 setClean b e = eachRecord e (recordClean b e) && allBelow (leftoverClean b e) (blocksHeld e)

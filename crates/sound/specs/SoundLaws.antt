@@ -1,7 +1,7 @@
 -- What sound gives, clause by clause, in the words of a proof; and what a chain that passes the test is.
 use Prim.Native.Nat.{ℕ, zero, suc, _+_, _≤_, _<_}
-use mathlib.Core.Path.{_≡_, refl}
-use mathlib.Core.Bool.{Bool, true, false, cond, _&&_, _||_, and-eq-true-iff}
+use mathlib.Core.Path.{_≡_}
+use mathlib.Core.Bool.{Bool, true, false, cond, _&&_, and-eq-true-iff}
 use mathlib.Core.List.{List, [], _∷_}
 use native.Mathlib.Omega.{arith}
 use lib.Dec.{eqb}
@@ -14,7 +14,7 @@ use Rattle.schema.specs.declared.Entry.{Entry}
 use Rattle.schema.specs.declared.Schema.{Schema}
 use Rattle.schema.specs.Decode.{entryOf, setCount}
 use Rattle.schema.specs.Place.{InSet, inSet}
-use Rattle.sound.specs.Sound.{eachRecord, checksTrue, setSound, sound, follow, isChain, isIn, within}
+use Rattle.sound.specs.Sound.{eachRecord, checksTrue, setSound, sound, follow, isChain}
 
 -- both parts of a test that holds
 both : (a b : Bool) → (a && b) ≡ true → (a ≡ true) × (b ≡ true)
@@ -66,13 +66,3 @@ pub follow-length : (n : ℕ) (e : Entry) (next : ℕ → ℕ) (r : ℕ) → len
 unfolding follow
 follow-length zero e next r = omega arith
 follow-length (suc n) e next r = follow-one (inSet e r) r n (follow n e next (next r)) (follow-length n e next (next r))
-
--- what is within a list is in it
-pub within-at : (xs ys : List ℕ) (r : ℕ) → within xs ys ≡ true → isIn r xs ≡ true → isIn r ys ≡ true
-unfolding within isIn
-within-at [] ys r h k = absurd (let z : _≡_ {A = ℕ} 0 1 = cc in omega arith)
-within-at (x ∷ xs) ys r h k = by (eqb x r) refl k (both (isIn x ys) (within xs ys) h) (λ q. within-at xs ys r (both (isIn x ys) (within xs ys) h .1) q)
-  where
-    by : (s : Bool) → eqb x r ≡ s → (s || isIn r xs) ≡ true → (isIn x ys ≡ true) × (within xs ys ≡ true) → (isIn r xs ≡ true → isIn r ys ≡ true) → isIn r ys ≡ true
-    by true e k w more = rw (eqb-true x r e) at (w .0)
-    by false e k w more = more k

@@ -1,7 +1,6 @@
 -- What a call comes to behind the general tests: refused by the tests of its parameters, or carried out on its set.
 use Prim.Native.Nat.{ℕ, _<_}
 use mathlib.Core.Path.{_≡_, refl, sym, ap, _∙_}
-use mathlib.Core.Bool.{true}
 use mathlib.Core.List.{List}
 use Rattle.terms.specs.declared.Status.{Status}
 use Rattle.terms.specs.declared.Status.the-variants.{Done}
@@ -11,109 +10,80 @@ use Rattle.terms.specs.Status.{statusNumber}
 use Rattle.schema.specs.declared.Path.{Path}
 use Rattle.schema.specs.declared.Entry.{Entry}
 use Rattle.schema.specs.declared.Schema.{Schema}
-use Rattle.schema.specs.Decode.{schemaOf}
-use Rattle.schema.specs.Layout.{keepsRules}
 use Rattle.calls.specs.Call.{Call}
 use Rattle.calls.specs.Scene.{sceneUnder}
-use Rattle.calls.specs.Outcome.{outcome}
 use Rattle.calls.specs.Answer.{answered}
-use Rattle.ends.specs.Ends.{Ends, refused-ends, not-done}
-use Rattle.ends.specs.Asks.{Asks, placedStatus, behind, placedOutcome, Answers}
-use Rattle.onmasters.specs.Masters.{Places, AnswersOn, AnswersIn}
-use Rattle.onmasters.specs.declared.Placed.{Placed}
-use Rattle.onpoints.specs.declared.Located.{Located}
-use Rattle.onpoints.specs.OnPath.{Locates, AnswersOnPath, AnswersUnder}
+use Rattle.ends.specs.AsksLaws.{asks-its-base, asks-its-name, asks-as}
+use Rattle.ends.specs.Ends.{Ends, refused-ends}
+use Rattle.terms.specs.Laws.{not-done}
+use Rattle.ends.specs.Asks.{placedStatus, pastGeneral, placedOutcome, Answers}
+use Rattle.master_calls.specs.Masters.{Places, AnswersOn, AnswersIn}
+use Rattle.master_calls.specs.declared.Placed.{Placed}
+use Rattle.point_calls.specs.declared.Located.{Located}
+use Rattle.point_calls.specs.OnPath.{Locates, AnswersOnPath, AnswersUnder}
 use Rattle.sweep.specs.declared.AnySet.{AnySet}
 use Rattle.sweep.specs.Swept.{Sweeps, SweptOn}
+use Rattle.store.specs.Decides.{AnswersNamed}
 
--- the outcome of every call that asks with these parameters, under a schema that keeps the rules
-pub record Decides (t : Schema) (o : Operation) (n : List ℕ) (r : ℕ) (p k a b : List ℕ) (s : Status) (q : ℕ) (new after : List ℕ) : Type 0 where
-  pub told : (c : Call) → Asks c o n r k a b → c .path ≡ p → keepsRules (c .schema) ≡ true → schemaOf (c .schema) ≡ t → Ends (outcome c) s q new after
-
--- the same of a call on points, which names a path
-pub record AnswersNamed (t : Schema) (o : Operation) (n p : List ℕ) (r : ℕ) (k a b : List ℕ) (s : Status) (q : ℕ) (new after : List ℕ) : Type 0 where
-  pub told : (c : Call) → Asks c o n r k a b → c .path ≡ p → Ends (behind t c) s q new after
-
-pub behind-refused : (t : Schema) (c : Call) (u : Status) → u ≡ placedStatus t c → 0 < statusNumber u → Ends (behind t c) u (c .reference) (c .area) (c .base)
-unfolding behind
+pub behind-refused : (t : Schema) (c : Call) (u : Status) → u ≡ placedStatus t c → 0 < statusNumber u → Ends (pastGeneral t c) u (c .reference) (c .area) (c .base)
+unfolding pastGeneral
 behind-refused t c u e h = refused-ends (sceneUnder t c) c _ u (rw (← e, not-done u h) refl) h
 
-pub behind-placed : (t : Schema) (c : Call) → Done ≡ placedStatus t c → behind t c ≡ placedOutcome t c
-unfolding behind placedOutcome
+pub behind-placed : (t : Schema) (c : Call) → Done ≡ placedStatus t c → pastGeneral t c ≡ placedOutcome t c
+unfolding pastGeneral placedOutcome
 behind-placed t c e = ap (answered (sceneUnder t c) c) (rw (← e) refl)
 
 module _ (t : Schema) (o : Operation) (n : List ℕ) (r : ℕ) (k a b : List ℕ) (p : Placed) (w : Places t o n r k a p) where
-  asks-placed : (c : Call) → Asks c o n r k a b → Asks c o n r k a (c .base)
-  asks-placed c h = record { operation = h .operation; name = h .name; reference = h .reference; key = h .key; area = h .area; base = refl }
-
-  named-so : (c : Call) → Asks c o n r k a b → Asks c o (c .name) r k a b
-  named-so c h = record { operation = h .operation; name = refl; reference = h .reference; key = h .key; area = h .area; base = h .base }
-
   -- a test of the parameters refuses
   pub set-refused : {s : Status} {q : ℕ} → 0 < statusNumber (p .status) → s ≡ p .status → q ≡ r → Answers t o n r k a b s q a b
   set-refused l e f =
-      record { told = λ c h. rw (e, f, ← h .reference, ← h .area, ← h .base) (behind-refused t c (p .status) (w .status c (asks-placed c h)) l) }
+      record { told = λ c h. rw (e, f, ← h .reference, ← h .area, ← h .base) (behind-refused t c (p .status) (w .status c (asks-its-base h)) l) }
 
   -- it is carried out on its set
   pub set-carried : {s : Status} {q : ℕ} {new after : List ℕ} → p .status ≡ Done
       → AnswersIn t (p .number .0) o (p .entry) r k a b s q new after → Answers t o n r k a b s q new after
   set-carried d f =
-      record { told = λ c h. rw (behind-placed t c (sym d ∙ w .status c (asks-placed c h))) (f .told c (named-so c h) (w .on-set d c (asks-placed c h))) }
+      record { told = λ c h. rw (behind-placed t c (sym d ∙ w .status c (asks-its-base h))) (f .told c (asks-its-name h) (w .on-set d c (asks-its-base h))) }
 
 -- ---- an operation that is known by another name
 
-asked-as : {c : Call} {o u : Operation} {n : List ℕ} {r : ℕ} {k a b : List ℕ} → u ≡ o → Asks c u n r k a b → Asks c o n r k a b
-asked-as e h = record { operation = h .operation ∙ e; name = h .name; reference = h .reference; key = h .key; area = h .area; base = h .base }
-
 module _ (t : Schema) (n : ℕ) (u o : Operation) (w : u ≡ o) (e : Entry) (r : ℕ) (k a b : List ℕ) {s : Status} {q : ℕ} {new after : List ℕ} where
   pub carried-on : AnswersOn o e r k a b s q new after → AnswersIn t n u e r k a b s q new after
-  carried-on h = record { told = λ c asks at. h .told t c n (asked-as w asks) at }
+  carried-on h = record { told = λ c asks at. h .told t c n (asks-as asks w) at }
 
   pub carried-in : AnswersIn t n o e r k a b s q new after → AnswersIn t n u e r k a b s q new after
-  carried-in h = record { told = λ c asks at. h .told c (asked-as w asks) at }
+  carried-in h = record { told = λ c asks at. h .told c (asks-as asks w) at }
 
 -- ---- RDNXT, on a set of either kind
 
 module _ (t : Schema) (n : List ℕ) (r : ℕ) (k a b : List ℕ) (p : AnySet) (w : Sweeps t n r k a p) where
-  asks-any : (c : Call) → Asks c Rdnxt n r k a b → Asks c Rdnxt n r k a (c .base)
-  asks-any c h = record { operation = h .operation; name = h .name; reference = h .reference; key = h .key; area = h .area; base = refl }
-
-  any-named : (c : Call) → Asks c Rdnxt n r k a b → Asks c Rdnxt (c .name) r k a b
-  any-named c h = record { operation = h .operation; name = refl; reference = h .reference; key = h .key; area = h .area; base = h .base }
-
   pub sweep-refused : {s : Status} {q : ℕ} → 0 < statusNumber (p .status) → s ≡ p .status → q ≡ r → Answers t Rdnxt n r k a b s q a b
   sweep-refused l e f =
-      record { told = λ c h. rw (e, f, ← h .reference, ← h .area, ← h .base) (behind-refused t c (p .status) (w .status c (asks-any c h)) l) }
+      record { told = λ c h. rw (e, f, ← h .reference, ← h .area, ← h .base) (behind-refused t c (p .status) (w .status c (asks-its-base h)) l) }
 
   pub sweep-carried : {s : Status} {q : ℕ} {new after : List ℕ} → p .status ≡ Done → SweptOn (p .entry) r a b s q new after → Answers t Rdnxt n r k a b s q new after
   sweep-carried d f =
-      record { told = λ c h. rw (behind-placed t c (sym d ∙ w .status c (asks-any c h))) (f .told t c k (any-named c h) (w .on-set d c (asks-any c h))) }
+      record { told = λ c h. rw (behind-placed t c (sym d ∙ w .status c (asks-its-base h))) (f .told t c k (asks-its-name h) (w .on-set d c (asks-its-base h))) }
 
 -- ---- points
 
 module _ (t : Schema) (o : Operation) (n w : List ℕ) (r : ℕ) (k a b : List ℕ) (l : Located) (at : Locates t o n w r k a l) where
-  asks-located : (c : Call) → Asks c o n r k a b → Asks c o n r k a (c .base)
-  asks-located c h = record { operation = h .operation; name = h .name; reference = h .reference; key = h .key; area = h .area; base = refl }
-
-  located-named : (c : Call) → Asks c o n r k a b → Asks c o (c .name) r k a b
-  located-named c h = record { operation = h .operation; name = refl; reference = h .reference; key = h .key; area = h .area; base = h .base }
-
   pub path-refused : {s : Status} {q : ℕ} → 0 < statusNumber (l .status) → s ≡ l .status → q ≡ r → AnswersNamed t o n w r k a b s q a b
   path-refused g e f =
-      record { told = λ c h p. rw (e, f, ← h .reference, ← h .area, ← h .base) (behind-refused t c (l .status) (at .status c (asks-located c h) p) g) }
+      record { told = λ c h p. rw (e, f, ← h .reference, ← h .area, ← h .base) (behind-refused t c (l .status) (at .status c (asks-its-base h) p) g) }
 
   pub path-carried : {s : Status} {q : ℕ} {new after : List ℕ} → l .status ≡ Done
       → AnswersUnder t o (l .entry) (l .on) (l .path) (l .masters) r k a b s q new after → AnswersNamed t o n w r k a b s q new after
   path-carried d f =
       record {
         told = λ c h p.
-            rw (behind-placed t c (sym d ∙ at .status c (asks-located c h) p))
-            (f .told c (l .number .0) (located-named c h) (at .on-path d c (asks-located c h) p));
+            rw (behind-placed t c (sym d ∙ at .status c (asks-its-base h) p))
+            (f .told c (l .number .0) (asks-its-name h) (at .on-path d c (asks-its-base h) p));
       }
 
 module _ (t : Schema) (u o : Operation) (w : u ≡ o) (e : Entry) (on : ℕ) (p : Path) (x : Entry) (r : ℕ) (k a b : List ℕ) {s : Status} {q : ℕ} {new after : List ℕ} where
   pub along-path : AnswersOnPath o e p x r k a b s q new after → AnswersUnder t u e on p x r k a b s q new after
-  along-path h = record { told = λ c n asks at. h .told t c n on (asked-as w asks) at }
+  along-path h = record { told = λ c n asks at. h .told t c n on (asks-as asks w) at }
 
   pub under-path : AnswersUnder t o e on p x r k a b s q new after → AnswersUnder t u e on p x r k a b s q new after
-  under-path h = record { told = λ c n asks at. h .told c n (asked-as w asks) at }
+  under-path h = record { told = λ c n asks at. h .told c n (asks-as asks w) at }

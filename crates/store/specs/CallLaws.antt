@@ -1,29 +1,28 @@
 -- The contract of `call` from what the code came to.
-use Prim.Native.Nat.{ℕ, _+_, _*_}
+use Prim.Native.Nat.{ℕ, _*_}
 use mathlib.Core.Path.{_≡_, refl, sym, _∙_}
 use mathlib.Core.Bool.{true, false}
 use mathlib.Core.List.{List}
 use Rattle.terms.specs.declared.Status.{Status}
 use Rattle.terms.specs.declared.Status.the-variants.{Schm}
 use Rattle.terms.specs.declared.Operation.{Operation}
-use Rattle.terms.specs.Status.{statusNumber}
 use Rattle.terms.specs.Operation.{operationOf}
 use Rattle.schema.specs.declared.Decoded.{Decoded}
 use Rattle.schema.specs.Decode.{schemaOf, decodedOf}
 use Rattle.schema.specs.Layout.{keepsRules}
 use Rattle.schema.specs.GuaranteeLaws.{decoded-ok}
-use Rattle.areas.specs.AreaLaws.{decoded-fields}
+use Rattle.records.specs.AreaLaws.{decoded-fields}
 use Rattle.calls.specs.Call.{Call, callOf}
 use Rattle.calls.specs.Outcome.{outcome, IsOutcome}
 use Rattle.ends.specs.Ends.{Ends}
-use Rattle.ends.specs.Asks.{Laid}
-use Rattle.store.specs.BehindLaws.{Decides}
+use Rattle.records.specs.InBase.{Laid}
+use Rattle.store.specs.Decides.{Decides}
 use Rattle.store.specs.TopLaws.{schema-ends}
 
 -- what the code came to, as an outcome
-pub is-outcome : (c : Call) {s : Status} {q : ℕ} {new after : List ℕ} → Ends (outcome c) s q new after
+pub as-outcome : (c : Call) {s : Status} {q : ℕ} {new after : List ℕ} → Ends (outcome c) s q new after
     → IsOutcome c (record { status = s; reference = q; area = new; base = after })
-is-outcome c w = record { status = w .status; reference = w .reference; area = w .area; base = w .base }
+as-outcome c w = record { status = w .status; reference = w .reference; area = w .area; base = w .base }
 
 -- what decoding gave
 ok-is : (s : List ℕ) → decodedOf s .ok ≡ keepsRules s
@@ -46,23 +45,11 @@ laid-out s e h =
 module _ (op n : List ℕ) (r : ℕ) (path key area s b : List ℕ) {d : Decoded} (e : d ≡ decodedOf s) where
   pub broken-schema : {u : Status} {q : ℕ} → d .ok ≡ false → u ≡ Schm → q ≡ r
       → IsOutcome (callOf op n r path key area s b) (record { status = u; reference = q; area = area; base = b })
-  broken-schema h v w = rw (v, w) (is-outcome (callOf op n r path key area s b) (schema-ends (callOf op n r path key area s b) (sym (ok-is s) ∙ (rw (← e) h))))
+  broken-schema h v w = rw (v, w) (as-outcome (callOf op n r path key area s b) (schema-ends (callOf op n r path key area s b) (sym (ok-is s) ∙ (rw (← e) h))))
 
-  pub decided : {o : Operation} {u : Status} {q : ℕ} {new after : List ℕ} → d .ok ≡ true → o ≡ operationOf op
+  pub call-decided : {o : Operation} {u : Status} {q : ℕ} {new after : List ℕ} → d .ok ≡ true → o ≡ operationOf op
       → Decides (d .schema) o n r path key area b u q new after → IsOutcome (callOf op n r path key area s b) (record { status = u; reference = q; area = new; base = after })
-  decided h o w =
+  call-decided h o w =
       let kept : keepsRules s ≡ true = sym (ok-is s) ∙ (rw (← e) h) in
-      is-outcome (callOf op n r path key area s b)
+      as-outcome (callOf op n r path key area s b)
       (w .told (callOf op n r path key area s b) (record { operation = sym o; name = refl; reference = refl; key = refl; area = refl; base = refl }) refl kept (schema-is s kept ∙ (rw e refl)))
-
--- ---- from C
-
--- the answer is status and reference in one word, and the two buffers are the outcome's
-pub record IsWord (c : Call) (w : ℕ) (new after : List ℕ) : Type 0 where
-  pub word : w ≡ statusNumber (outcome c .status) * 4294967296 + outcome c .reference
-  pub area : new ≡ outcome c .area
-  pub base : after ≡ outcome c .base
-
-pub as-word : (c : Call) {s : Status} {q w m : ℕ} {new after : List ℕ} → IsOutcome c (record { status = s; reference = q; area = new; base = after })
-    → m ≡ statusNumber s → w ≡ m * 4294967296 + q → IsWord c w new after
-as-word c h n e = record { word = rw (e, n, h .status, h .reference) refl; area = h .area; base = h .base }

@@ -16,20 +16,17 @@ use Rattle.plans.specs.Plan.{formatted}
 use Rattle.sound.specs.Sound.{sound}
 use Rattle.calls.specs.Call.{Call, oneOf}
 use Rattle.calls.specs.Outcome.{outcome}
+use Rattle.ends.specs.AsksLaws.{asks-as, given-back}
 use Rattle.ends.specs.Ends.{Ends}
 use Rattle.ends.specs.Asks.{Asks, Answers}
-use Rattle.store.specs.BehindLaws.{Decides, AnswersNamed}
+use Rattle.store.specs.Decides.{Decides, AnswersNamed}
 use Rattle.store.specs.declared.kinds.Kind.{Kind}
-use Rattle.store.specs.Kinds.{kindOf, operationIn, kind-back}
+use Rattle.store.specs.Kinds.{operationKind, operationIn, kind-back}
 use Rattle.store.specs.TopLaws.{size-ends, unknown-ends, format-ends, sound-ends, unsound-ends, outcome-behind}
 
 -- the operation of a kind
-pub told-kind : (o : Operation) {k l : Kind} → k ≡ kindOf o → k ≡ l → o ≡ operationIn l
+pub told-kind : (o : Operation) {k l : Kind} → k ≡ operationKind o → k ≡ l → o ≡ operationIn l
 told-kind o h w = sym (kind-back o) ∙ ap operationIn (sym h ∙ w)
-
-given-back : {c : Call} {o : Operation} {n : List ℕ} {r : ℕ} {k a b : List ℕ} {s : Status} → Asks c o n r k a b
-    → Ends (outcome c) s (c .reference) (c .area) (c .base) → Ends (outcome c) s r a b
-given-back h w = rw (← h .reference, ← h .area, ← h .base) w
 
 module _ (t : Schema) (o : Operation) (n : List ℕ) (r : ℕ) (p k a b : List ℕ) where
   pub decides-size : {s : Status} {q : ℕ} → (length b ≡ t .blocks * 512 → ⊥) → s ≡ Size → q ≡ r → Decides t o n r p k a b s q a b
@@ -58,16 +55,12 @@ module _ (t : Schema) (o : Operation) (n : List ℕ) (r : ℕ) (p k a b : List �
         judged c kept here z e true w = sound-ends t c kept here z e w
         judged c kept here z e false w = unsound-ends t c kept here z e w
 
-    -- the operation is u
-    as-asked : (u : Operation) → o ≡ u → (c : Call) → Asks c o n r k a b → Asks c u n r k a b
-    as-asked u e c h = record { operation = h .operation ∙ e; name = h .name; reference = h .reference; key = h .key; area = h .area; base = h .base }
-
     pub decides-behind : (u : Operation) {s : Status} {q : ℕ} {new after : List ℕ} → o ≡ u → oneOf u (Unknown ∷ []) ≡ false → Answers t u n r k a b s q new after
         → Decides t o n r p k a b s q new after
     decides-behind u e z w =
-        record { told = λ c h path kept here. rw (outcome-behind t c kept here (sized-here c h) (rw (h .operation, e) z)) (w .told c (as-asked u e c h)) }
+        record { told = λ c h path kept here. rw (outcome-behind t c kept here (sized-here c h) (rw (h .operation, e) z)) (w .told c (asks-as h e)) }
 
     pub decides-path : (u : Operation) {s : Status} {q : ℕ} {new after : List ℕ} → o ≡ u → oneOf u (Unknown ∷ []) ≡ false → AnswersNamed t u n p r k a b s q new after
         → Decides t o n r p k a b s q new after
     decides-path u e z w =
-        record { told = λ c h path kept here. rw (outcome-behind t c kept here (sized-here c h) (rw (h .operation, e) z)) (w .told c (as-asked u e c h) path) }
+        record { told = λ c h path kept here. rw (outcome-behind t c kept here (sized-here c h) (rw (h .operation, e) z)) (w .told c (asks-as h e) path) }

@@ -5,10 +5,10 @@ use mathlib.Core.List.{[], _∷_}
 use Rattle.terms.specs.declared.Operation.{Operation}
 use Rattle.terms.specs.declared.Operation.the-variants.{Formt, Sinon, AddM, DelM, Readm, Writm, Rqloc, Rdnxt, Readv, Readr, Readd, Writv, Addvc, Addvb, Addva, Delvd, Unknown}
 use Rattle.calls.specs.Call.{oneOf}
-use Rattle.onmasters.specs.Masters.{MasterCall}
-use Rattle.onmasters.specs.MasterLaws.{addm-call, delm-call, readm-call, writm-call, rqloc-call}
-use Rattle.onpoints.specs.OnPath.{PointCall}
-use Rattle.onpoints.specs.PathLaws.{readv-call, readr-call, readd-call, writv-call, addvc-call, addvb-call, addva-call, delvd-call}
+use Rattle.master_calls.specs.Masters.{MasterCall}
+use Rattle.master_calls.specs.MasterLaws.{addm-call, delm-call, readm-call, writm-call, rqloc-call}
+use Rattle.point_calls.specs.OnPath.{PointCall}
+use Rattle.point_calls.specs.PathLaws.{readv-call, readr-call, readd-call, writv-call, addvc-call, addvb-call, addva-call, delvd-call}
 use Rattle.store.specs.declared.kinds.OnMasters.{OnMasters}
 use Rattle.store.specs.declared.kinds.OnMasters.the-variants as M
 use Rattle.store.specs.declared.kinds.OnPoints.{OnPoints}
@@ -33,24 +33,24 @@ pointOperation P.AddBefore = Addvb
 pointOperation P.AddAfter = Addva
 pointOperation P.Delete = Delvd
 
-abbrev pub kindOf : Operation → Kind
-kindOf Formt = K.Format
-kindOf Sinon = K.SignOn
-kindOf AddM = K.Masters M.Add
-kindOf DelM = K.Masters M.Delete
-kindOf Readm = K.Masters M.Read
-kindOf Writm = K.Masters M.Write
-kindOf Rqloc = K.Masters M.Locate
-kindOf Rdnxt = K.Sweep
-kindOf Readv = K.Points P.ReadNext
-kindOf Readr = K.Points P.ReadPrior
-kindOf Readd = K.Points P.Read
-kindOf Writv = K.Points P.Write
-kindOf Addvc = K.Points P.AddLast
-kindOf Addvb = K.Points P.AddBefore
-kindOf Addva = K.Points P.AddAfter
-kindOf Delvd = K.Points P.Delete
-kindOf Unknown = K.Unknown
+abbrev pub operationKind : Operation → Kind
+operationKind Formt = K.Format
+operationKind Sinon = K.SignOn
+operationKind AddM = K.Masters M.Add
+operationKind DelM = K.Masters M.Delete
+operationKind Readm = K.Masters M.Read
+operationKind Writm = K.Masters M.Write
+operationKind Rqloc = K.Masters M.Locate
+operationKind Rdnxt = K.Sweep
+operationKind Readv = K.Points P.ReadNext
+operationKind Readr = K.Points P.ReadPrior
+operationKind Readd = K.Points P.Read
+operationKind Writv = K.Points P.Write
+operationKind Addvc = K.Points P.AddLast
+operationKind Addvb = K.Points P.AddBefore
+operationKind Addva = K.Points P.AddAfter
+operationKind Delvd = K.Points P.Delete
+operationKind Unknown = K.Unknown
 
 -- and back
 abbrev pub operationIn : Kind → Operation
@@ -61,7 +61,7 @@ operationIn (K.Masters m) = masterOperation m
 operationIn (K.Points p) = pointOperation p
 operationIn K.Unknown = Unknown
 
-pub kind-back : (o : Operation) → operationIn (kindOf o) ≡ o
+pub kind-back : (o : Operation) → operationIn (operationKind o) ≡ o
 kind-back Formt = refl
 kind-back Sinon = refl
 kind-back AddM = refl

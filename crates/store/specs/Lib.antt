@@ -1,3 +1,4 @@
+pub mod Decides
 pub mod BehindLaws
 pub mod CallLaws
 pub mod DecideLaws

@@ -1,16 +1,14 @@
 -- From the outcome of a call to what its parts answer: the general tests first; then FORMT and SINON, or what is behind them.
 use Prim.Native.Nat.{_*_}
 use mathlib.Core.Path.{_≡_, refl, sym, ap, _∙_}
-use mathlib.Core.Bool.{Bool, true, false, cond, not}
+use mathlib.Core.Bool.{true, false, cond, not}
 use mathlib.Core.List.{[], _∷_}
 use native.Mathlib.Omega.{arith}
-use lib.Dec.{eqb}
 use lib.ListN.{length}
 use borrow.Author.Tests.{eq-eqb, ne-eqb}
-use Rattle.terms.specs.declared.Status.{Status}
 use Rattle.terms.specs.declared.Status.the-variants.{Done, Schm, Size, Func, Damg}
 use Rattle.terms.specs.declared.Operation.the-variants.{Formt, Sinon, Unknown}
-use Rattle.terms.specs.Status.{statusNumber}
+use Rattle.terms.specs.Laws.{firstOf-assoc}
 use Rattle.terms.specs.Operation.{operationOf}
 use Rattle.schema.specs.declared.Schema.{Schema}
 use Rattle.schema.specs.Decode.{schemaOf}
@@ -23,22 +21,15 @@ use Rattle.calls.specs.Scene.{sceneUnder}
 use Rattle.calls.specs.Ladder.{refusal, generalTests, ladder}
 use Rattle.calls.specs.Reply.{given, referenceAfter, areaAfter, storesOf, baseAfter}
 use Rattle.calls.specs.Outcome.{done, outcomeIn, outcome}
-use Rattle.calls.specs.Answer.{firstOf, answered, placeTests, formTests, refusal-groups}
+use Rattle.calls.specs.Answer.{answered, placeTests, formTests, refusal-groups}
 use Rattle.calls.specs.RestLaws.{rest-sinon, rest-formt}
 use Rattle.ends.specs.Ends.{Ends, refused-ends}
-use Rattle.ends.specs.Asks.{behind}
+use Rattle.ends.specs.Asks.{pastGeneral}
 
 -- a schema that breaks a rule
 pub schema-ends : (c : Call) → keepsRules (c .schema) ≡ false → Ends (outcome c) Schm (c .reference) (c .area) (c .base)
 unfolding outcome outcomeIn ladder refusal
 schema-ends c k = rw k (record { status = refl; reference = refl; area = refl; base = refl })
-
-firstOf-assoc : (r s u : Status) → firstOf (firstOf r s) u ≡ firstOf r (firstOf s u)
-firstOf-assoc r s u = go (eqb (statusNumber r) 0) refl
-  where
-    go : (b : Bool) → eqb (statusNumber r) 0 ≡ b → firstOf (firstOf r s) u ≡ firstOf r (firstOf s u)
-    go true e = rw e refl
-    go false e = rw (e, e) refl
 
 module _ (t : Schema) (c : Call) (kept : keepsRules (c .schema) ≡ true) (here : schemaOf (c .schema) ≡ t) where
   outcome-under : outcome c ≡ answered (sceneUnder t c) c (refusal (ladder (sceneUnder t c) c))
@@ -65,8 +56,8 @@ module _ (t : Schema) (c : Call) (kept : keepsRules (c .schema) ≡ true) (here 
     general-pass e = rw (kept, schema-here t c, eq-eqb (length (c .base)) (t .blocks * 512) sized, operation-here t c, e) refl
 
     -- the rest is behind the general tests
-    pub outcome-behind : oneOf (operationOf (c .operation)) (Unknown ∷ []) ≡ false → outcome c ≡ behind t c
-    unfolding behind
+    pub outcome-behind : oneOf (operationOf (c .operation)) (Unknown ∷ []) ≡ false → outcome c ≡ pastGeneral t c
+    unfolding pastGeneral
     outcome-behind e =
         outcome-under ∙ ap (answered (sceneUnder t c) c)
         (refusal-groups (sceneUnder t c) c ∙ (rw (general-pass e) (sym (firstOf-assoc (refusal (placeTests (sceneUnder t c) c)) (refusal (formTests (sceneUnder t c) c)) _))))
@@ -74,15 +65,15 @@ module _ (t : Schema) (c : Call) (kept : keepsRules (c .schema) ≡ true) (here 
     -- ---- FORMT and SINON: "FORMT and SINON test no more parameters"
 
     format-answers : operationOf (c .operation) ≡ Formt
-        → behind t c ≡ record { status = Done; reference = c .reference; area = c .area; base = formatted (t .blocks) }
-    unfolding behind refusal answered done referenceAfter areaAfter given baseAfter
+        → pastGeneral t c ≡ record { status = Done; reference = c .reference; area = c .area; base = formatted (t .blocks) }
+    unfolding pastGeneral refusal answered done referenceAfter areaAfter given baseAfter
     format-answers e = rw (rest-formt (sceneUnder t c) c (operation-here t c ∙ e), operation-here t c, e, schema-here t c) refl
 
     pub format-ends : operationOf (c .operation) ≡ Formt → Ends (outcome c) Done (c .reference) (c .area) (formatted (t .blocks))
     format-ends e = rw (outcome-behind (rw e refl), format-answers e) (record { status = refl; reference = refl; area = refl; base = refl })
 
-    sign-on-answers : operationOf (c .operation) ≡ Sinon → behind t c ≡ answered (sceneUnder t c) c (cond (not (sound t (c .base))) Damg Done)
-    unfolding behind refusal
+    sign-on-answers : operationOf (c .operation) ≡ Sinon → pastGeneral t c ≡ answered (sceneUnder t c) c (cond (not (sound t (c .base))) Damg Done)
+    unfolding pastGeneral refusal
     sign-on-answers e = ap (answered (sceneUnder t c) c) (rw (rest-sinon (sceneUnder t c) c (operation-here t c ∙ e), operation-here t c, e, schema-here t c) refl)
 
     sound-answers : operationOf (c .operation) ≡ Sinon → answered (sceneUnder t c) c Done ≡ record { status = Done; reference = c .reference; area = c .area; base = c .base }

@@ -1,7 +1,7 @@
 // The sixteen calls by what they speak of: the whole data base, a set of masters, a path of a set of points, or any set.
 use terms::Operation;
 ghost use mathlib.Core.Path.{_≡_};
-ghost use Rattle.store.specs.Kinds.{masterOperation, pointOperation, kindOf};
+ghost use Rattle.store.specs.Kinds.{masterOperation, pointOperation, operationKind};
 
 // The calls on masters: ADD-M, DEL-M, READM, WRITM, RQLOC.
 pub enum OnMasters {
@@ -66,7 +66,7 @@ impl OnPoints {
 
 impl Kind {
     pub fn of(o: Operation) -> Kind
-        ensures { λ k. ⌜ k ≡ kindOf o ⌝ }
+        ensures { λ k. ⌜ k ≡ operationKind o ⌝ }
     {
         match o {
             Operation::Formt => Kind::Format,

@@ -1,11 +1,12 @@
 // The store: one call, with document 01's parameters. A call reads and tests, makes a plan, and commits it.
-use bottles::on_masters;
 use ends::Answer;
 use ends::ended;
 use kinds::Kind;
-use rings::on_points;
+use on_any::on_any;
+use on_masters::on_masters;
+use on_points::on_points;
 use schema::Schema;
-use sweeps::on_any;
+use schema::layout::length_of;
 use terms::Operation;
 use terms::Reference;
 use terms::Status;
@@ -17,14 +18,14 @@ ghost use Rattle.terms.specs.declared.Status.the-variants.{Done, Damg};
 ghost use Rattle.sound.specs.Sound.{sound};
 ghost use Rattle.calls.specs.Call.{callOf};
 ghost use Rattle.calls.specs.Outcome.{IsOutcome};
-ghost use Rattle.ends.specs.Asks.{Laid};
-ghost use Rattle.store.specs.BehindLaws.{Decides};
-ghost use Rattle.store.specs.CallLaws.{IsWord};
+ghost use Rattle.calls.specs.Word.{upperHalf, lowerHalf, IsWord};
+ghost use Rattle.records.specs.InBase.{Laid};
+ghost use Rattle.store.specs.Decides.{Decides};
 
-mod bottles;
 pub mod kinds;
-mod rings;
-mod sweeps;
+mod on_any;
+mod on_masters;
+mod on_points;
 
 // SINON: "SINON only judges soundness."
 fn sign_on(t: Schema, reference: Reference, base: &[u8]) -> Answer
@@ -81,8 +82,7 @@ fn under(
     requires { ⌜ length (now set) ≡ 4 ⌝ }
     ensures { λ a. ⌜ Decides t o (now (set .entry)) (reference .0) (now (path .entry)) (now (key .entry)) (now (area .entry)) (now (base .entry)) (a .status) (a .reference .0) (now (area .exit)) (now (base .exit)) ⌝ }
 {
-    let blocks = t.blocks;
-    if base.len() != (blocks as usize) * 512 {
+    if base.len() != length_of(t) {
         return ended(Status::Size, reference);
     }
     perform(t, o, set, reference, path, key, area, base)
@@ -110,9 +110,9 @@ pub fn call(
     under(d.schema, o, set, reference, path, key, area, base)
 }
 
-// Status and reference as one word, for C.
+// Status and reference as the two halves of one word, for C.
 fn one_word(status: u32, reference: u32) -> u64
-    ensures { λ r. ⌜ r ≡ status * 4294967296 + reference ⌝ }
+    ensures { λ w. ⌜ (upperHalf w ≡ status) × (lowerHalf w ≡ reference) ⌝ }
 {
     (status as u64) * 4294967296 + (reference as u64)
 }
@@ -129,7 +129,7 @@ pub extern "C" fn yarugota_call(
     schema: &[u8],
     base: &mut [u8],
 ) -> u64
-    ensures { λ r. ⌜ IsWord (callOf (now (op .entry)) (now (set .entry)) reference (now (path .entry)) (now (key .entry)) (now (area .entry)) (now (schema .entry)) (now (base .entry))) r (now (area .exit)) (now (base .exit)) ⌝ }
+    ensures { λ w. ⌜ IsWord (callOf (now (op .entry)) (now (set .entry)) reference (now (path .entry)) (now (key .entry)) (now (area .entry)) (now (schema .entry)) (now (base .entry))) w (now (area .exit)) (now (base .exit)) ⌝ }
 {
     let a = call(op, set, Reference(reference), path, key, area, schema, base);
     let status = a.status;

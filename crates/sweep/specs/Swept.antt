@@ -1,33 +1,37 @@
 -- RDNXT: what it has found out when its set is known, and what it comes to.
 use Prim.Native.Nat.{ℕ, _*_, _≤_}
 use mathlib.Core.Path.{_≡_}
+use mathlib.Core.Bool.{cond}
 use mathlib.Core.List.{List}
+use lib.Dec.{ltb}
 use lib.ListN.{length}
 use Rattle.terms.specs.declared.Status.{Status}
-use Rattle.terms.specs.declared.Status.the-variants.{Done}
+use Rattle.terms.specs.declared.Status.the-variants.{Done, Fntf}
 use Rattle.terms.specs.declared.Operation.the-variants.{Rdnxt}
 use Rattle.schema.specs.declared.Entry.{Entry}
 use Rattle.schema.specs.declared.Schema.{Schema}
-use Rattle.schema.specs.Place.{LiesIn}
-use Rattle.areas.specs.AreaLaws.{Fields}
+use Rattle.schema.specs.Decode.{entryOf, setCount}
 use Rattle.records.specs.Areas.{areaLength}
 use Rattle.calls.specs.Call.{Call}
 use Rattle.calls.specs.Scene.{sceneUnder}
+use Rattle.forms.specs.Form.{formStatus}
+use Rattle.records.specs.InBase.{IsSetOf}
 use Rattle.ends.specs.Ends.{Ends}
 use Rattle.ends.specs.Asks.{Asks, placedStatus, placedOutcome}
 use Rattle.sweep.specs.declared.AnySet.{AnySet}
 
--- a set of either kind in a base of n bytes
-pub record SetIn (e : Entry) (n : ℕ) : Type 0 where
-  pub lies : LiesIn e n
-  pub fields : Fields e
-  pub sized : 1 ≤ e .size
-
 -- what is known once the forms are right: the reference is 0 or a record of the set, and the area has its length
 pub record SetSwept (t : Schema) (r : ℕ) (a : List ℕ) (e : Entry) : Type 0 where
-  pub set : SetIn e (512 * t .blocks)
+  pub set : IsSetOf t e (512 * t .blocks)
   pub reference : r ≤ e .records
   pub area : length a ≡ areaLength e
+
+-- 4 to 11 by form, on set number i: a number that no set has is refused, with the schema's first set in its place
+abbrev pub sweptAt : Schema → ℕ → ℕ → List ℕ → List ℕ → AnySet
+sweptAt t i r key area =
+    cond (ltb i (setCount t))
+    (record { status = formStatus Rdnxt (entryOf t i) 0 0 (entryOf t i .key) r key area; entry = entryOf t i })
+    (record { status = Fntf; entry = entryOf t 0 })
 
 -- what every RDNXT that asks with these parameters has come to
 pub record Sweeps (t : Schema) (n : List ℕ) (r : ℕ) (k a : List ℕ) (p : AnySet) : Type 0 where

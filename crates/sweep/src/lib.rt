@@ -2,20 +2,22 @@
 use ends::Answer;
 use ends::give;
 use masters::scan::next_live;
-use names::entry_number;
 use schema::Entry;
 use schema::Schema;
 use schema::layout::entry_of;
+use schema::layout::sets;
+use terms::EntryNo;
 use terms::Operation;
 use terms::Reference;
 use terms::Status;
 ghost use mathlib.Core.Path.{_≡_};
 ghost use Prim.Native.Nat.{_*_, _≤_};
 ghost use lib.ListN.{length};
+ghost use Rattle.schema.specs.Naming.{setNamed};
 ghost use Rattle.records.specs.Areas.{areaLength};
 ghost use Rattle.calls.specs.Reply.{orNone};
-ghost use Rattle.ends.specs.Asks.{Laid};
-ghost use Rattle.sweep.specs.Swept.{SetIn, Sweeps, SweptOn};
+ghost use Rattle.records.specs.InBase.{Laid, IsSet};
+ghost use Rattle.sweep.specs.Swept.{sweptAt, SweptOn};
 
 // The set that the call speaks of, where the status is Done.
 pub struct AnySet {
@@ -27,14 +29,13 @@ pub struct AnySet {
 pub fn find_any(t: Schema, set: &[u8], reference: Reference, key: &[u8], area: &[u8]) -> AnySet
     requires { ⌜ Laid t (512 * t .blocks) ⌝ }
     requires { ⌜ length (now set) ≡ 4 ⌝ }
-    ensures { λ p. ⌜ Sweeps t (now (set .entry)) (reference .0) (now (key .entry)) (now (area .entry)) p ⌝ }
+    ensures { λ p. ⌜ p ≡ sweptAt t (setNamed t (now (set .entry))) (reference .0) (now (key .entry)) (now (area .entry)) ⌝ }
 {
-    let i = names::set_named(t, set);
-    let n = entry_number(i);
-    if names::sets(t) <= i {
+    let n = names::set_named(t, set);
+    if sets(t) <= n.0 {
         return AnySet {
             status: Status::Fntf,
-            entry: t.entries[0],
+            entry: entry_of(t, EntryNo(0)),
         };
     }
     let e = entry_of(t, n);
@@ -54,7 +55,7 @@ fn or_none(e: Entry, r: u32) -> u32
 
 // "RDNXT reads the next live one above the reference, 0 to begin".
 pub fn rdnxt(e: Entry, reference: Reference, area: &mut [u8], base: &[u8]) -> Answer
-    requires { ⌜ SetIn e (length (now base)) ⌝ }
+    requires { ⌜ IsSet e (length (now base)) ⌝ }
     requires { ⌜ reference .0 ≤ e .records ⌝ }
     requires { ⌜ length (now area) ≡ areaLength e ⌝ }
     ensures { λ a. ⌜ SweptOn e (reference .0) (now (area .entry)) (now (base .entry)) (a .status) (a .reference .0) (now (area .exit)) (now (base .entry)) ⌝ }

@@ -1,27 +1,31 @@
 -- The laws of keys, references, statuses and operations.
-use Prim.Native.Nat.{ℕ, _+_, _*_, _%_, _≤_, _<_}
+use Prim.Native.Nat.{ℕ, _+_, _*_, _-_, _%_, _≤_, _<_}
 use mathlib.Core.Path.{_≡_, refl, sym, ap, _∙_}
 use mathlib.Core.Bool.{Bool, true, false}
-use mathlib.Core.List.{List, [], _∷_}
+use mathlib.Core.List.{List, [], _∷_, _++_}
 use native.Mathlib.Omega.{arith}
 use native.Mathlib.Nat.{mod-lt}
 use lib.Dec.{ltb}
 use lib.ListN.{length, getD, take, drop-of-length-le}
 use lib.Seq.{length-take-le}
-use borrow.Author.Tests.{ltb-true}
-use Rattle.octets.specs.Octets.{Bytes, wordSum, sameBytes, every}
-use Rattle.octets.specs.SpliceLaws.{drop-one, drop-four}
+use borrow.Author.Tests.{ne-eqb, ltb-true}
+use Rattle.octets.specs.Octets.{Bytes, splice, zeros, wordSum, sameBytes, every}
+use Rattle.octets.specs.SpliceLaws.{drop-one, drop-four, splice-eq, drop-zeros}
 use Rattle.octets.specs.RunLaws.{every-at, ne-sameBytes}
-use Rattle.terms.specs.Terms.{homeOf, endRef, linkRef}
-use Rattle.terms.specs.Status.{statusNumber}
+use Rattle.terms.specs.Terms.{keyFrom, homeOf, endRef, linkRef}
+use Rattle.terms.specs.Status.{statusNumber, isDone, firstOf}
 use Rattle.terms.specs.declared.Status.{Status}
 use Rattle.terms.specs.declared.Status.the-variants.{Done, Schm, Size, Func, Fntf, Kind, Path, Area, Klen, Bctl, Keys, Ivrp, Mrnf, Dupm, Imdl, Full, Damg}
 
 -- ---- keys
 
+-- bytes copied into an array of sixteen zeros
+pub key-copied : (s : List ℕ) → length s ≤ 16 → splice (zeros 16) 0 s ≡ keyFrom s .bytes
+key-copied s h = splice-eq (zeros 16) 0 s (omega arith) ∙ ap (λ (z : List ℕ). s ++ z) (drop-zeros (0 + length s) 16 (16 - length s) (omega arith))
+
 -- a key's list is as long as the key says
-pub key-length : (bytes : List ℕ) (len : ℕ) → length bytes ≡ 16 → len ≤ 16 → length (take len bytes) ≡ len
-key-length bytes len full sized = length-take-le len bytes (omega arith)
+pub keyOf-length : (bytes : List ℕ) (len : ℕ) → length bytes ≡ 16 → len ≤ 16 → length (take len bytes) ≡ len
+keyOf-length bytes len full sized = length-take-le len bytes (omega arith)
 
 -- a home is a record of the set
 pub home-in-set : (records : ℕ) (key : List ℕ) → 1 ≤ records → (1 ≤ homeOf records key) × (homeOf records key ≤ records)
@@ -35,43 +39,49 @@ endRef-high = omega arith
 pub linkRef-high : (a b : ℕ) → 65535 < linkRef a b
 linkRef-high a b = omega arith
 
-pub linkRef-not-end : (a b : ℕ) → linkRef a b ≡ endRef → ⊥
-linkRef-not-end a b e = omega arith
-
-pub linkRef-one : (a b c d : ℕ) → b < 256 → d < 256 → linkRef a b ≡ linkRef c d → (a ≡ c) × (b ≡ d)
-linkRef-one a b c d p q e = (omega arith, omega arith)
-
 -- ---- statuses
 
 -- the statuses by number
 abbrev statuses : List Status
 statuses = Done ∷ Schm ∷ Size ∷ Func ∷ Fntf ∷ Kind ∷ Path ∷ Area ∷ Klen ∷ Bctl ∷ Keys ∷ Ivrp ∷ Mrnf ∷ Dupm ∷ Imdl ∷ Full ∷ Damg ∷ []
 
-numbered : (s : Status) → (getD statuses (statusNumber s) Done ≡ s) × (statusNumber s < 17)
-numbered Done = (refl, omega arith)
-numbered Schm = (refl, omega arith)
-numbered Size = (refl, omega arith)
-numbered Func = (refl, omega arith)
-numbered Fntf = (refl, omega arith)
-numbered Kind = (refl, omega arith)
-numbered Path = (refl, omega arith)
-numbered Area = (refl, omega arith)
-numbered Klen = (refl, omega arith)
-numbered Bctl = (refl, omega arith)
-numbered Keys = (refl, omega arith)
-numbered Ivrp = (refl, omega arith)
-numbered Mrnf = (refl, omega arith)
-numbered Dupm = (refl, omega arith)
-numbered Imdl = (refl, omega arith)
-numbered Full = (refl, omega arith)
-numbered Damg = (refl, omega arith)
-
-pub statusNumber-lt : (s : Status) → statusNumber s < 17
-statusNumber-lt s = numbered s .1
+numbered : (s : Status) → getD statuses (statusNumber s) Done ≡ s
+numbered Done = refl
+numbered Schm = refl
+numbered Size = refl
+numbered Func = refl
+numbered Fntf = refl
+numbered Kind = refl
+numbered Path = refl
+numbered Area = refl
+numbered Klen = refl
+numbered Bctl = refl
+numbered Keys = refl
+numbered Ivrp = refl
+numbered Mrnf = refl
+numbered Dupm = refl
+numbered Imdl = refl
+numbered Full = refl
+numbered Damg = refl
 
 -- no two statuses have one number
 pub status-number-one : (s t : Status) → statusNumber s ≡ statusNumber t → s ≡ t
-status-number-one s t e = sym (numbered s .0) ∙ ap (λ (n : ℕ). getD statuses n Done) e ∙ numbered t .0
+status-number-one s t e = sym (numbered s) ∙ ap (λ (n : ℕ). getD statuses n Done) e ∙ numbered t
+
+-- a status that refuses is not Done
+pub not-done : (s : Status) → 0 < statusNumber s → isDone s ≡ false
+not-done s h = ne-eqb (statusNumber s) 0 (λ e. omega arith)
+
+pub refused-done : {A : Type 0} {s u : Status} → s ≡ u → 0 < statusNumber u → s ≡ Done → A
+refused-done {u = u} h l d = absurd (let z : statusNumber u ≡ 0 = ap statusNumber (sym h ∙ d) in omega arith)
+
+-- of three statuses the first that refuses
+pub firstOf-assoc : (r s u : Status) → firstOf (firstOf r s) u ≡ firstOf r (firstOf s u)
+firstOf-assoc r s u = go (isDone r) refl
+  where
+    go : (d : Bool) → isDone r ≡ d → firstOf (firstOf r s) u ≡ firstOf r (firstOf s u)
+    go true e = rw e refl
+    go false e = rw (e, e) refl
 
 -- ---- operations
 

@@ -1,6 +1,6 @@
 -- Document 01, "Status numbers": the number and the code of each status, and which one is no refusal.
 use Prim.Native.Nat.{ℕ}
-use mathlib.Core.Bool.{Bool}
+use mathlib.Core.Bool.{Bool, cond}
 use mathlib.Core.List.{List}
 use lib.Dec.{eqb}
 use Rattle.octets.specs.Text.{text}
@@ -28,6 +28,10 @@ statusNumber Damg = 16
 
 abbrev pub isDone : Status → Bool
 isDone s = eqb (statusNumber s) 0
+
+-- the first of two statuses that refuses; where neither does, done
+abbrev pub firstOf : Status → Status → Status
+firstOf s more = cond (isDone s) more s
 
 abbrev pub statusCode : Status → List ℕ
 statusCode Done = text "****"

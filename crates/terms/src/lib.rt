@@ -1,9 +1,9 @@
 // The words of document 01: numbers that are counted apart, the key, the reference, the status and the operation.
 ghost use mathlib.Core.Path.{_≡_};
-ghost use Prim.Native.Nat.{_+_, _*_, _≤_};
+ghost use Prim.Native.Nat.{_+_, _*_, _≤_, _<_};
 ghost use lib.ListN.{length};
 ghost use Rattle.octets.specs.Octets.{sameBytes, wordSum, allBlank, run};
-ghost use Rattle.terms.specs.Terms.{keyOf, endRef, linkRef, homeOf};
+ghost use Rattle.terms.specs.Terms.{keyOf, keyFrom, endRef, linkRef, homeOf};
 ghost use Rattle.terms.specs.Status.{statusNumber, statusCode};
 ghost use Rattle.terms.specs.Operation.{operationOf};
 
@@ -68,7 +68,7 @@ impl Key {
     // The key that is all of s.
     pub fn of(s: &[u8]) -> Key
         requires { ⌜ length (now s) ≤ 16 ⌝ }
-        ensures { λ r. ⌜ (keyOf r ≡ now (s .entry)) × (r .len ≡ length (now (s .entry))) ⌝ }
+        ensures { λ r. ⌜ (keyOf r ≡ now (s .entry)) × (r .len ≡ length (now (s .entry))) × (r ≡ keyFrom (now (s .entry))) ⌝ }
     {
         let mut bytes = [0u8; 16];
         octets::copy_in(&mut bytes, 0, s);
@@ -76,6 +76,15 @@ impl Key {
             bytes: bytes,
             len: s.len(),
         }
+    }
+
+    // The key that is the `len` bytes of s from `at` on.
+    pub fn part(s: &[u8], at: usize, len: usize) -> Key
+        requires { ⌜ (len ≤ 16) × (at + len ≤ length (now s)) ⌝ }
+        ensures { λ r. ⌜ (keyOf r ≡ run (now (s .entry)) at len) × (r .len ≡ len) × (r ≡ keyFrom (run (now (s .entry)) at len)) ⌝ }
+    {
+        let end = at + len;
+        Key::of(&s[at..end])
     }
 
     // The wrapping sum of the key's words.
@@ -154,9 +163,9 @@ impl Reference {
         Reference(n.0)
     }
 
-    // LKxx: the path with the letters a and b, from its beginning or end.
+    // LKxx: the path with the letters a and b, from its beginning or end. The letters are bytes, so no two pairs make the same word.
     pub fn link(a: u8, b: u8) -> Reference
-        ensures { λ r. ⌜ r .0 ≡ linkRef a b ⌝ }
+        ensures { λ r. ⌜ (r .0 ≡ linkRef a b) × (a < 256) × (b < 256) ⌝ }
     {
         Reference(0x4C4B0000 + wide(a) * 256 + wide(b))
     }

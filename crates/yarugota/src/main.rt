@@ -1,8 +1,15 @@
 // Document 01's program: it formats the small store, makes the call of each line of standard input, and prints the answers. What a line
-// does and prints is proved in the crate `console`; here bytes are read, cut into lines, and written.
+// does and prints is proved in the crate `console`; here bytes are read, cut into lines, and written. The contracts say where the program
+// stands after the bytes that it has taken: the line's number, what is kept of the line, the data base. What is written is not stated: the
+// kit has no statement on it. Nor does `libc::read` say which bytes it brought.
 ghost use mathlib.Core.Path.{_≡_};
-ghost use Prim.Native.Nat.{_≤_};
+ghost use mathlib.Core.Bool.{not};
+ghost use mathlib.Core.List.{List};
+ghost use Prim.Native.Nat.{ℕ, _≤_};
+ghost use lib.Dec.{eqb};
 ghost use lib.ListN.{length};
+ghost use Rattle.console.specs.Console.{Replied, responded};
+ghost use Rattle.console.specs.Session.{Stand, begun, byteTaken, bytesTaken, lastReply, StandsAt, Leads};
 
 // The line that is being read: its number, and how many of its bytes are kept.
 struct Place {
@@ -18,12 +25,16 @@ fn print(out: &[u8], n: usize)
 }
 
 // Answers a line, by way of a buffer.
-fn answer(number: u64, line: &[u8], schema: &[u8], base: &mut [u8], out: &mut [u8; 64]) {
+fn answer(number: u64, line: &[u8], schema: &[u8], base: &mut [u8], out: &mut [u8; 64])
+    ensures { λ _. ⌜ ((n : ℕ) × Replied n (now (out .entry)) (now (out .exit)) (now (base .exit)) (responded number (now (line .entry)) (now (schema .entry)) (now (base .entry)))) ⌝ }
+{
     let n = console::respond(number, line, schema, base, out);
     print(out, n);
 }
 
-fn end_line(number: u64, line: &[u8], schema: &[u8], base: &mut [u8]) {
+fn end_line(number: u64, line: &[u8], schema: &[u8], base: &mut [u8])
+    ensures { λ _. ⌜ now (base .exit) ≡ responded number (now (line .entry)) (now (schema .entry)) (now (base .entry)) .base ⌝ }
+{
     let mut out = [0u8; 64];
     answer(number, line, schema, base, &mut out);
 }
@@ -32,6 +43,7 @@ fn end_line(number: u64, line: &[u8], schema: &[u8], base: &mut [u8]) {
 fn take_byte(place: Place, byte: u8, line: &mut [u8], schema: &[u8], base: &mut [u8]) -> Place
     requires { ⌜ (length (now line) ≡ 129) × (place .len ≤ 129) ⌝ }
     ensures { λ r. ⌜ r .len ≤ 129 ⌝ }
+    ensures { λ r. ⌜ Leads (λ s. byteTaken (now (schema .entry)) s byte) (place .number) (place .len) (now (line .entry)) (now (base .entry)) (r .number) (r .len) (now (line .exit)) (now (base .exit)) ⌝ }
 {
     let number = place.number;
     let len = place.len;
@@ -54,6 +66,7 @@ fn take_byte(place: Place, byte: u8, line: &mut [u8], schema: &[u8], base: &mut 
 fn take_bytes(place: Place, bytes: &[u8], line: &mut [u8], schema: &[u8], base: &mut [u8]) -> Place
     requires { ⌜ (length (now line) ≡ 129) × (place .len ≤ 129) ⌝ }
     ensures { λ r. ⌜ r .len ≤ 129 ⌝ }
+    ensures { λ r. ⌜ Leads (λ s. bytesTaken (now (schema .entry)) s (now (bytes .entry))) (place .number) (place .len) (now (line .entry)) (now (base .entry)) (r .number) (r .len) (now (line .exit)) (now (base .exit)) ⌝ }
 {
     let mut at = place;
     let mut i = 0;
@@ -70,10 +83,11 @@ struct Turn {
     more: bool,
 }
 
-// Reads once.
+// Reads once, and takes the bytes that it has read, whichever they are.
 fn read_once(place: Place, line: &mut [u8], schema: &[u8], base: &mut [u8]) -> Turn
     requires { ⌜ (length (now line) ≡ 129) × (place .len ≤ 129) ⌝ }
     ensures { λ r. ⌜ r .place .len ≤ 129 ⌝ }
+    ensures { λ r. ⌜ ((bytes : List ℕ) × (r .more ≡ not (eqb (length bytes) 0)) × Leads (λ s. bytesTaken (now (schema .entry)) s bytes) (place .number) (place .len) (now (line .entry)) (now (base .entry)) (r .place .number) (r .place .len) (now (line .exit)) (now (base .exit))) ⌝ }
 {
     let mut buffer = io::buffer();
     let got = libc::read(0, &mut buffer);
@@ -91,6 +105,7 @@ fn read_once(place: Place, line: &mut [u8], schema: &[u8], base: &mut [u8]) -> T
 fn read_all(line: &mut [u8], schema: &[u8], base: &mut [u8]) -> Place
     requires { ⌜ length (now line) ≡ 129 ⌝ }
     ensures { λ r. ⌜ r .len ≤ 129 ⌝ }
+    ensures { λ r. ⌜ ((bytes : List ℕ) × StandsAt (bytesTaken (now (schema .entry)) (begun (now (base .entry))) bytes) (r .number) (r .len) (now (line .exit)) (now (base .exit))) ⌝ }
 {
     let mut place = Place { number: 1, len: 0 };
     let mut turns = u64::MAX;
@@ -108,6 +123,7 @@ fn read_all(line: &mut [u8], schema: &[u8], base: &mut [u8]) -> Place
 // A last line without newline counts; nothing after the last newline is no line.
 fn last_line(place: Place, line: &[u8], schema: &[u8], base: &mut [u8])
     requires { ⌜ (length (now line) ≡ 129) × (place .len ≤ 129) ⌝ }
+    ensures { λ _. ⌜ ((s : Stand) → StandsAt s (place .number) (place .len) (now (line .entry)) (now (base .entry)) → now (base .exit) ≡ lastReply (now (schema .entry)) s .base) ⌝ }
 {
     let number = place.number;
     let len = place.len;

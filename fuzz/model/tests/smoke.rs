@@ -6,9 +6,9 @@ use std::process::{Command, Output};
 fn smoke(fault: Option<&str>) -> Output {
     let script = Path::new(env!("CARGO_MANIFEST_DIR")).join("../smoke");
     let mut command = Command::new(script);
-    command.env_remove("STAND_IN_FAULT");
-    if let Some(number) = fault {
-        command.env("STAND_IN_FAULT", number);
+    command.env_remove("YARUGOTA_FAULT");
+    if let Some(name) = fault {
+        command.env("YARUGOTA_FAULT", name);
     }
     command.output().expect("fuzz/smoke starts")
 }
@@ -25,7 +25,7 @@ fn the_seeds_pass() {
 /// DELVD of a first record gives 0, which the seeds do.
 #[test]
 fn a_wrong_store_does_not() {
-    let output = smoke(Some("7"));
+    let output = smoke(Some("ZeroForLink"));
     let errors = String::from_utf8_lossy(&output.stderr);
     assert!(!output.status.success());
     assert!(errors.contains("the answers differ: DELVD"), "{errors}");

@@ -48,7 +48,7 @@ fn zero_for_a_deleted_first_record_is_noticed() {
 #[test]
 fn a_record_linked_on_the_first_path_only_is_noticed() {
     is_noticed(
-        "chains/Points",
+        "points/Points",
         "(addMaster k) (addLink k) r) (e .count)",
         "(addMaster k) (addLink k) r) 1",
     );

@@ -3,15 +3,16 @@
 use std::collections::BTreeMap;
 use std::rc::Rc;
 
-use yarugota_driver::{Answer, Batch, Change, Driver, Ender, Failure, Store};
-use yarugota_model::{Operation, Status};
+use yarugota_driver::{Answer, Batch, Change, Ender, Failure};
+use yarugota_model::{Fault, Operation, Status};
 use yarugota_support::runs::Seen;
-use yarugota_support::{model, Answered, Call};
+use yarugota_support::{model_with, Answered, Call};
 
-use crate::Difference;
+use crate::store::Called;
+use crate::{Difference, Store};
 
-/// A batch goes over when it has so many calls or bytes.
-const MOST_CALLS: usize = 4096;
+/// A batch goes over when it has so many events or bytes.
+const MOST_EVENTS: usize = 4096;
 const MOST_BYTES: usize = 1 << 22;
 
 /// What was done so far.
@@ -38,21 +39,18 @@ impl Summary {
 /// difference no more calls go to the store, and whoever makes them should
 /// look at [`Beside::differs`] and stop.
 pub struct Beside {
-    driver: Driver,
-    schema: Rc<[u8]>,
+    store: Called,
     /// As the model's calls have left it.
-    base: Vec<u8>,
-    /// As it was last given.
-    given: Rc<[u8]>,
-    batch: Batch,
-    /// What the batch holds, to tell a failing case by.
+    now: State,
+    /// The batch: what has not gone to the store yet, and how many bytes go over.
     events: Vec<Event>,
+    bytes: usize,
+    /// Where the batch starts.
+    start: State,
     pub(crate) summary: Summary,
     difference: Option<Box<Difference>>,
     /// Of the last call.
     origin: Origin,
-    /// The driver goes on from batch to batch.
-    start: State,
 }
 
 enum Event {
@@ -75,24 +73,48 @@ pub struct Origin {
     pub step: u64,
 }
 
-/// Where a batch starts.
-#[derive(Clone)]
+/// A schema, and a data base as it was given and as it is.
+#[derive(Clone, Default)]
 struct State {
     schema: Rc<[u8]>,
     given: Rc<[u8]>,
     base: Vec<u8>,
 }
 
-/// What the model answers to a call, and changes.
-pub(crate) fn modelled(call: &Call, schema: &[u8], base: &mut [u8]) -> (Status, Answer) {
+impl State {
+    /// Goes on by an event, and where that is a call by what the model changes.
+    fn follow(&mut self, event: &Event) {
+        match event {
+            Event::Schema(bytes) => self.schema = bytes.clone(),
+            Event::Base(bytes) => {
+                self.given = bytes.clone();
+                self.base = bytes.to_vec();
+            }
+            Event::Again => self.base.copy_from_slice(&self.given),
+            Event::Made { expected, .. } => {
+                let changes = expected.changes.iter();
+                changes.for_each(|change| change.apply(&mut self.base));
+            }
+        }
+    }
+}
+
+/// What the model answers to a call, and changes; with a mistake, where there
+/// is one.
+pub(crate) fn modelled(
+    fault: Option<Fault>,
+    call: &Call,
+    schema: &[u8],
+    base: &[u8],
+) -> (Status, Answer) {
     let mut made = call.clone();
-    let before = base.to_vec();
-    let (status, reference) = model(&mut made, schema, base);
+    let mut after = base.to_vec();
+    let (status, reference) = model_with(fault, &mut made, schema, &mut after);
     let answer = Answer {
         status: status.number(),
         reference,
         area: made.area,
-        changes: Change::between(&before, base),
+        changes: Change::between(base, &after),
     };
     (status, answer)
 }
@@ -100,20 +122,14 @@ pub(crate) fn modelled(call: &Call, schema: &[u8], base: &mut [u8]) -> (Status, 
 impl Beside {
     pub fn new(store: Store) -> Beside {
         Beside {
-            driver: Driver::start(store),
-            schema: Rc::from([]),
-            base: Vec::new(),
-            given: Rc::from([]),
-            batch: Batch::new(),
+            store: store.start(),
+            now: State::default(),
             events: Vec::new(),
+            bytes: 0,
+            start: State::default(),
             summary: Summary::default(),
             difference: None,
             origin: Origin::default(),
-            start: State {
-                schema: Rc::from([]),
-                given: Rc::from([]),
-                base: Vec::new(),
-            },
         }
     }
 
@@ -127,76 +143,77 @@ impl Beside {
     }
 
     pub fn schema(&mut self, bytes: &[u8]) {
-        self.schema = Rc::from(bytes);
-        self.batch.schema(bytes);
-        self.events.push(Event::Schema(self.schema.clone()));
+        self.push(Event::Schema(Rc::from(bytes)), bytes.len());
     }
 
     /// The data base of the calls that follow.
     pub fn set_base(&mut self, bytes: &[u8]) {
-        self.given = Rc::from(bytes);
-        self.base = bytes.to_vec();
-        self.batch.base(bytes);
-        self.events.push(Event::Base(self.given.clone()));
+        self.push(Event::Base(Rc::from(bytes)), bytes.len());
     }
 
     /// The data base as it was last given.
     pub fn base_again(&mut self) {
-        self.base.copy_from_slice(&self.given);
-        self.batch.base_again();
-        self.events.push(Event::Again);
+        self.push(Event::Again, 0);
     }
 
     /// The data base as the calls have left it.
     pub fn base(&self) -> &[u8] {
-        &self.base
+        &self.now.base
+    }
+
+    fn push(&mut self, event: Event, bytes: usize) {
+        self.now.follow(&event);
+        self.events.push(event);
+        self.bytes += bytes;
     }
 
     /// Makes a call; the answer is the model's.
     pub fn call(&mut self, call: &Call) -> Answered {
-        let (status, expected) = modelled(call, &self.schema, &mut self.base);
+        let (status, expected) = modelled(None, call, &self.now.schema, &self.now.base);
         self.summary.calls += 1;
         if let Some(operation) = Operation::named(&call.op) {
             let count = self.summary.statuses.entry((operation, status));
             *count.or_default() += 1;
         }
         self.origin.step += 1;
-        let (op, set, path) = (&call.op, &call.set, &call.path);
-        self.batch
-            .call(op, set, call.reference, path, &call.key, &call.area);
-        self.events.push(Event::Made {
-            call: call.clone(),
-            expected: expected.clone(),
-            origin: self.origin,
-        });
-        if self.batch.calls() >= MOST_CALLS || self.batch.bytes() >= MOST_BYTES {
-            self.compare();
-        }
-        Answered {
+        let answered = Answered {
             status,
             reference: expected.reference,
-            area: expected.area,
+            area: expected.area.clone(),
+        };
+        let made = Event::Made {
+            call: call.clone(),
+            expected,
+            origin: self.origin,
+        };
+        self.push(made, call.key.len() + call.area.len());
+        if self.events.len() >= MOST_EVENTS || self.bytes >= MOST_BYTES {
+            self.compare();
         }
+        answered
     }
 
     /// As a store that the model's callers can use: the answer is the model's,
     /// and the same call goes to the store.
     pub fn as_store(&mut self, call: &mut Call, schema: &[u8], base: &mut [u8]) -> (Status, u32) {
-        if *self.schema != *schema {
+        if *self.now.schema != *schema {
             self.schema(schema);
         }
-        if self.base != base {
+        if self.now.base != base {
             self.set_base(base);
         }
         let answered = self.call(call);
         call.area = answered.area;
-        base.copy_from_slice(&self.base);
+        base.copy_from_slice(&self.now.base);
         (answered.status, answered.reference)
     }
 
-    /// Ends the store's process from another thread.
-    pub fn ender(&self) -> Ender {
-        self.driver.ender()
+    /// Ends the store's process from another thread, where it has one.
+    pub fn ender(&self) -> Option<Ender> {
+        match &self.store {
+            Called::Driver(driver) => Some(driver.ender()),
+            Called::Model(_) => None,
+        }
     }
 
     /// Whether the store has answered otherwise than the model.
@@ -216,71 +233,101 @@ impl Beside {
 
     /// Makes the batch's calls on the store.
     pub fn compare(&mut self) {
-        let batch = std::mem::take(&mut self.batch);
         let events = std::mem::take(&mut self.events);
+        self.bytes = 0;
+        let start = std::mem::replace(&mut self.start, self.now.clone());
         if self.difference.is_none() {
-            let mut expected = events.iter().filter_map(|event| match event {
-                Event::Made { expected, .. } => Some(expected),
-                _ => None,
-            });
-            let mut number = 0;
-            let mut wrong = None;
-            self.driver.make(&batch, |answer| {
-                let should = expected.next().expect("an answer to each call");
-                let right = matches!(&answer, Ok(answer) if answer == should);
-                if !right && wrong.is_none() {
-                    wrong = Some((number, answer));
-                }
-                number += 1;
-            });
-            if let Some((number, answer)) = wrong {
-                self.difference = Some(Box::new(self.told(&events, number, answer)));
-            }
+            let wrong = first_wrong(&mut self.store, &start, &events);
+            let told = wrong.map(|(at, answer)| told(start, events, at, answer));
+            self.difference = told.map(Box::new);
         }
-        self.start = State {
-            schema: self.schema.clone(),
-            given: self.given.clone(),
-            base: self.base.clone(),
-        };
     }
+}
 
-    /// The case of the batch's call of that number, counted from 0.
-    fn told(&self, events: &[Event], number: usize, answer: Result<Answer, Failure>) -> Difference {
-        let State {
-            mut schema,
-            mut given,
-            mut base,
-        } = self.start.clone();
-        let mut made = 0;
-        for event in events {
-            match event {
-                Event::Schema(bytes) => schema = bytes.clone(),
-                Event::Base(bytes) => {
-                    given = bytes.clone();
-                    base = given.to_vec();
+/// The first answer that is not the model's, with the place of its call among
+/// the events.
+fn first_wrong(
+    store: &mut Called,
+    start: &State,
+    events: &[Event],
+) -> Option<(usize, Result<Answer, Failure>)> {
+    let events_at = events.iter().enumerate();
+    let mut expected = events_at.filter_map(|(at, event)| match event {
+        Event::Made { expected, .. } => Some((at, expected)),
+        _ => None,
+    });
+    let mut wrong = None;
+    make(store, start, events, |answer| {
+        let (at, should) = expected.next().expect("an answer to each call");
+        let right = matches!(&answer, Ok(answer) if answer == should);
+        if !right && wrong.is_none() {
+            wrong = Some((at, answer));
+        }
+    });
+    wrong
+}
+
+/// Makes the calls, and hands the store's answers over one by one.
+fn make(
+    store: &mut Called,
+    start: &State,
+    events: &[Event],
+    mut each: impl FnMut(Result<Answer, Failure>),
+) {
+    match store {
+        // It goes on from batch to batch by itself.
+        Called::Driver(driver) => driver.make(&batch(events), each),
+        Called::Model(fault) => {
+            let mut state = start.clone();
+            for event in events {
+                if let Event::Made { call, .. } = event {
+                    each(Ok(modelled(*fault, call, &state.schema, &state.base).1));
                 }
-                Event::Again => base = given.to_vec(),
-                Event::Made {
-                    call,
-                    expected,
-                    origin,
-                } => {
-                    if made == number {
-                        return Difference {
-                            origin: *origin,
-                            schema: schema.to_vec(),
-                            base,
-                            call: call.clone(),
-                            expected: expected.clone(),
-                            answer,
-                        };
-                    }
-                    let changes = expected.changes.iter();
-                    changes.for_each(|change| change.apply(&mut base));
-                    made += 1;
-                }
+                state.follow(event);
             }
         }
-        unreachable!("the batch has a call of that number")
+    }
+}
+
+/// As the driver is told.
+fn batch(events: &[Event]) -> Batch {
+    let mut batch = Batch::new();
+    for event in events {
+        match event {
+            Event::Schema(bytes) => batch.schema(bytes),
+            Event::Base(bytes) => batch.base(bytes),
+            Event::Again => batch.base_again(),
+            Event::Made { call, .. } => {
+                let (op, set, path) = (&call.op, &call.set, &call.path);
+                batch.call(op, set, call.reference, path, &call.key, &call.area);
+            }
+        }
+    }
+    batch
+}
+
+/// The case of the call at that place.
+fn told(
+    mut state: State,
+    mut events: Vec<Event>,
+    at: usize,
+    answer: Result<Answer, Failure>,
+) -> Difference {
+    events[..at].iter().for_each(|event| state.follow(event));
+    let Event::Made {
+        call,
+        expected,
+        origin,
+    } = events.swap_remove(at)
+    else {
+        unreachable!("only calls are answered")
+    };
+    Difference {
+        origin,
+        schema: state.schema.to_vec(),
+        base: state.base,
+        call,
+        expected,
+        answer,
     }
 }

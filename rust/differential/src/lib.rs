@@ -11,10 +11,12 @@ mod damages;
 mod direct;
 mod largest;
 mod parameters;
+mod store;
 pub mod suites;
 mod targets;
 
 pub use beside::{Beside, Origin, Summary};
 pub use case::Difference;
 pub use direct::Direct;
+pub use store::Store;
 pub use targets::calls_on;

@@ -2,7 +2,7 @@
 
 use std::ops::Range;
 
-use yarugota_driver::{Answer, Store};
+use yarugota_driver::Answer;
 use yarugota_model::{seal, Schema, Status, BLOCK};
 use yarugota_support::calls::CallMaker;
 use yarugota_support::damage::{damage, rubbish};
@@ -11,7 +11,7 @@ use yarugota_support::{rules, schemas, Call, Random};
 
 use crate::beside::modelled;
 use crate::targets::{calls_on, stores};
-use crate::{damages, largest, parameters, Beside, Difference, Summary};
+use crate::{damages, largest, parameters, Beside, Difference, Store, Summary};
 
 /// A way to make calls.
 #[derive(Clone, Copy)]
@@ -111,10 +111,7 @@ fn every_size(beside: &mut Beside, _seed: u64) {
 /// eight of the others.
 fn every_damage(beside: &mut Beside, _seed: u64) {
     for fixture in stores() {
-        let answer = |call: &Call, base: &[u8]| {
-            let mut base = base.to_vec();
-            modelled(call, &fixture.schema, &mut base).1
-        };
+        let answer = |call: &Call, base: &[u8]| modelled(None, call, &fixture.schema, base).1;
         let calls = calls_on(&fixture.decoded, &fixture.base);
         let undamaged: Vec<Answer> = calls
             .iter()

@@ -2,8 +2,7 @@
 //! suite it runs, and that the suite has met what it is there for.
 
 use yarugota_differential::suites::Suite;
-use yarugota_differential::Summary;
-use yarugota_driver::Store;
+use yarugota_differential::{Store, Summary};
 use yarugota_model::{Operation, Status};
 
 /// Runs a suite with the gate's seeds and panics at the first difference.

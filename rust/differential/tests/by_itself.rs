@@ -1,7 +1,6 @@
 //! The proved store judged without the model.
 
-use yarugota_differential::Direct;
-use yarugota_driver::Store;
+use yarugota_differential::{Direct, Store};
 use yarugota_support::runs::{run, Seen};
 use yarugota_support::vectors::replay;
 

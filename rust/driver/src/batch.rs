@@ -13,16 +13,6 @@ impl Batch {
         Batch::default()
     }
 
-    /// How many calls the batch has.
-    pub fn calls(&self) -> usize {
-        self.areas.len()
-    }
-
-    /// How many bytes go over.
-    pub fn bytes(&self) -> usize {
-        self.requests.len()
-    }
-
     /// The schema of the calls that follow.
     pub fn schema(&mut self, bytes: &[u8]) {
         self.requests.push(b'S');
@@ -39,6 +29,13 @@ impl Batch {
     /// The data base as the last [`Batch::base`] gave it.
     pub fn base_again(&mut self) {
         self.requests.push(b'R');
+    }
+
+    /// The next call's key lies in its area, from this byte on: the call is made
+    /// by the header's `yarugota_call_key_in_area`.
+    pub fn key_in_area(&mut self, from: u32) {
+        self.requests.push(b'K');
+        self.requests.extend(from.to_be_bytes());
     }
 
     pub fn call(

@@ -5,13 +5,10 @@
 //! an emulator where the processor needs one. The program hands every buffer
 //! over between guard bytes and tells what a call changed.
 //!
-//! Many calls go over in one [`Batch`]. In place of the proved store there may
-//! be a [stand-in](Store::StandIn), with which the tests themselves are tried.
+//! Many calls go over in one [`Batch`].
 
 mod batch;
-mod faults;
 mod process;
 
 pub use batch::{Answer, Batch, Change};
-pub use faults::{faults, Fault};
-pub use process::{Driver, Ender, Failure, Store};
+pub use process::{Driver, Ender, Failure};

@@ -7,53 +7,6 @@ use std::sync::{Arc, Mutex, MutexGuard, PoisonError};
 
 use crate::{Answer, Batch, Change};
 
-/// Which store a driver calls.
-#[derive(Clone, Copy, Debug, PartialEq, Eq)]
-pub enum Store {
-    /// The proved one.
-    Proved,
-    /// The stand-in in C, of which nothing is proved, with one of its faults;
-    /// 0 is none.
-    StandIn { fault: u32 },
-}
-
-impl Store {
-    /// The proved store, unless the environment asks for another by
-    /// `YARUGOTA_STORE=stand-in` (and `STAND_IN_FAULT=number`).
-    pub fn chosen() -> Store {
-        let number = |text: String| text.parse().expect("STAND_IN_FAULT is a number");
-        match std::env::var("YARUGOTA_STORE").as_deref() {
-            Err(_) | Ok("proved") => Store::Proved,
-            Ok("stand-in") => {
-                eprintln!("this is the stand-in, not the proved store");
-                let fault = std::env::var("STAND_IN_FAULT").map_or(0, number);
-                Store::StandIn { fault }
-            }
-            Ok(other) => panic!("YARUGOTA_STORE is `{other}`, neither `proved` nor `stand-in`"),
-        }
-    }
-
-    fn command(self) -> Command {
-        match self {
-            Store::Proved => {
-                let program = env!("DRIVER_PROVED");
-                assert!(
-                    !program.is_empty(),
-                    "the proved store is missing: `tools/archives`, run at the repository root, comes first"
-                );
-                let mut command = Command::new(env!("RUN_X86"));
-                command.arg(program);
-                command
-            }
-            Store::StandIn { fault } => {
-                let mut command = Command::new(env!("DRIVER_STAND_IN"));
-                command.env("STAND_IN_FAULT", fault.to_string());
-                command
-            }
-        }
-    }
-}
-
 /// A driver that is running.
 #[derive(Debug)]
 pub struct Driver {
@@ -106,9 +59,29 @@ impl fmt::Display for Failure {
 impl Driver {
     /// Starts a driver. Panics, and says what to do, if the proved library has
     /// not been built.
-    pub fn start(store: Store) -> Driver {
-        let mut child = store
-            .command()
+    pub fn start() -> Driver {
+        Driver::started(&mut Driver::command())
+    }
+
+    /// A driver that makes a mistake beside the answers of the store, as
+    /// `driver.c` lists them.
+    pub fn mistaken(mistake: &str) -> Driver {
+        Driver::started(Driver::command().arg(mistake))
+    }
+
+    fn command() -> Command {
+        let program = env!("DRIVER_PROVED");
+        assert!(
+            !program.is_empty(),
+            "the proved store is missing: `tools/archives`, run at the repository root, comes first"
+        );
+        let mut command = Command::new(env!("RUN_X86"));
+        command.arg(program);
+        command
+    }
+
+    fn started(command: &mut Command) -> Driver {
+        let mut child = command
             .stdin(Stdio::piped())
             .stdout(Stdio::piped())
             .spawn()

@@ -3,8 +3,8 @@
 use std::ops::Range;
 use std::time::Duration;
 
-use yarugota_differential::{calls_on, Beside, Difference, Summary};
-use yarugota_driver::{Failure, Store};
+use yarugota_differential::{calls_on, Beside, Difference, Store, Summary};
+use yarugota_driver::Failure;
 use yarugota_model::{Operation, Schema, Status};
 use yarugota_support::calls::CallMaker;
 use yarugota_support::schemas::Draft;
@@ -26,7 +26,8 @@ enum Pace {
 /// A store under load, beside the model.
 pub struct Load {
     beside: Beside,
-    watch: Watch,
+    /// Of a store in a process of its own.
+    watch: Option<Watch>,
     pace: Pace,
     tally: Tally,
 }
@@ -41,7 +42,7 @@ struct Life<'a> {
 impl Load {
     fn new(store: Store, pace: Pace, deadline: Duration) -> Load {
         let beside = Beside::new(store);
-        let watch = Watch::new(beside.ender(), deadline);
+        let watch = beside.ender().map(|ender| Watch::new(ender, deadline));
         Load {
             beside,
             watch,
@@ -179,14 +180,14 @@ impl Load {
         if self.pace == Pace::Single {
             self.beside.compare();
         }
-        self.watch.alive();
+        self.watch.iter().for_each(Watch::alive);
         answered
     }
 
     /// What was counted, or the first difference and whether the store was late.
     fn finish(self) -> Result<(Tally, Summary), (Box<Difference>, bool)> {
         let finished = self.beside.finish();
-        let late = self.watch.ended();
+        let late = self.watch.is_some_and(Watch::ended);
         match finished {
             Ok(summary) => Ok((self.tally, summary)),
             Err(difference) => Err((difference, late)),

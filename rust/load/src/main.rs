@@ -7,7 +7,7 @@
 use std::process::ExitCode;
 use std::time::{Duration, Instant};
 
-use yarugota_driver::Store;
+use yarugota_differential::Store;
 use yarugota_load::Load;
 
 /// Far above what any call here takes, under an emulator too.

@@ -3,7 +3,7 @@
 
 use std::time::Duration;
 
-use yarugota_driver::Store;
+use yarugota_differential::Store;
 use yarugota_load::{Kind, Load};
 use yarugota_model::{Operation, Status};
 

@@ -3,6 +3,7 @@
 
 use crate::block::{seal, BLOCK};
 use crate::database::DataBase;
+use crate::fault::Fault;
 use crate::ladder::{refuse, Request};
 use crate::links::{self, Position};
 use crate::masters;
@@ -30,7 +31,23 @@ pub fn call(
     schema: &[u8],
     base: &mut [u8],
 ) -> (Status, u32) {
-    let done = decode(op, schema, base).and_then(|(operation, schema)| {
+    call_with(None, op, set, reference, path, key, area, schema, base)
+}
+
+/// The same with a mistake, where there is one.
+#[allow(clippy::too_many_arguments)] // as above
+pub fn call_with(
+    fault: Option<Fault>,
+    op: &[u8; 5],
+    set: &[u8; 4],
+    reference: u32,
+    path: &[u8; 8],
+    key: &[u8],
+    area: &mut [u8],
+    schema: &[u8],
+    base: &mut [u8],
+) -> (Status, u32) {
+    let done = decode(fault, op, schema, base).and_then(|(operation, schema)| {
         let request = Request {
             operation,
             set,
@@ -45,6 +62,11 @@ pub fn call(
         }
         Ok(answer.reference)
     });
+    if fault == Some(Fault::AreaOfRefused) && done.is_err() {
+        // On a copy, so that nothing but the area is changed.
+        let (taken, base) = (Some(Fault::OtherKeyTaken), &mut base.to_vec());
+        call_with(taken, op, set, reference, path, key, area, schema, base);
+    }
     match done {
         Ok(reference) => (Status::Done, reference),
         Err(status) => (status, reference),
@@ -52,8 +74,13 @@ pub fn call(
 }
 
 /// Tests 1, 2 and 3.
-fn decode(op: &[u8; 5], schema: &[u8], base: &[u8]) -> Result<(Operation, Schema), Status> {
-    let schema = Schema::decode(schema).ok_or(Status::Schm)?;
+fn decode(
+    fault: Option<Fault>,
+    op: &[u8; 5],
+    schema: &[u8],
+    base: &[u8],
+) -> Result<(Operation, Schema), Status> {
+    let schema = Schema::decode_with(fault, schema).ok_or(Status::Schm)?;
     refuse(base.len() != schema.base_length(), Status::Size)?;
     let operation = Operation::named(op).ok_or(Status::Func)?;
     Ok((operation, schema))
@@ -84,7 +111,7 @@ fn perform(schema: &Schema, request: &Request, bytes: &mut [u8]) -> Result<Answe
         Operation::Addva => links::add(Position::After, base, request)?,
         Operation::Delvd => links::del_vd(base, request)?,
     };
-    answer.stores.carry_out(bytes)?;
+    answer.stores.carry_out(schema.fault, bytes)?;
     Ok(answer)
 }
 

@@ -2,6 +2,7 @@
 //! referenced record, and the pointers between records.
 
 use crate::database::{DataBase, Record, Set};
+use crate::fault::Fault;
 use crate::home::find_master;
 use crate::ladder::{refuse, Request};
 use crate::status::Status;
@@ -57,6 +58,7 @@ pub fn referenced<'a>(set: &Set<'a>, slot: usize, request: &Request) -> Result<R
 /// and is above R, not live, or (variable) of another key on that path".
 pub fn usable(set: &Set, slot: usize, pointer: u32, key: &[u8]) -> Result<(), Status> {
     let record = set.live_record(pointer);
-    let of_that_key = record.is_some_and(|record| record.path_key(slot) == key);
+    let any_key = set.fault == Some(Fault::OtherKeyTaken);
+    let of_that_key = record.is_some_and(|record| any_key || record.path_key(slot) == key);
     refuse(pointer != 0 && !of_that_key, Status::Damg)
 }

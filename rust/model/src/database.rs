@@ -1,6 +1,7 @@
 //! The data base as a call reads it: sets, records and their fields.
 
 use crate::bytes::word;
+use crate::fault::{is_one_above, Fault};
 use crate::layout::{Place, FILLER, MASTER_KEY, ROOT_NEXT, ROOT_PRIOR, STATE};
 use crate::schema::{Entry, Kind, Schema};
 
@@ -20,6 +21,7 @@ impl<'a> DataBase<'a> {
             entry: &self.schema.entries[entry],
             place: self.schema.layout.places[entry],
             bytes: self.bytes,
+            fault: self.schema.fault,
         }
     }
 
@@ -36,6 +38,7 @@ pub struct Set<'a> {
     pub place: Place,
     /// The bytes of the whole data base.
     pub bytes: &'a [u8],
+    pub(crate) fault: Option<Fault>,
 }
 
 impl<'a> Set<'a> {
@@ -45,6 +48,7 @@ impl<'a> Set<'a> {
         Record {
             entry: self.entry,
             bytes: &self.bytes[offset..offset + self.place.record_length],
+            fault: self.fault,
         }
     }
 
@@ -65,13 +69,18 @@ impl<'a> Set<'a> {
     /// The record that a pointer leads to, if there is such a record and it is
     /// live.
     pub fn live_record(&self, pointer: u32) -> Option<Record<'a>> {
-        if !self.has(pointer) {
+        let one_above = self.fault == Some(Fault::OneAboveR) && is_one_above(self, pointer);
+        if !self.has(pointer) && !one_above {
             return None;
         }
         Some(self.record(pointer)).filter(Record::live)
     }
 
     pub fn lowest_free(&self) -> Option<u32> {
+        let too_soon = self.fault == Some(Fault::FullTooSoon);
+        if too_soon && self.record(self.entry.records).live() {
+            return None;
+        }
         let mut free = self.records().filter(|(_, record)| !record.live());
         free.next().map(|(number, _)| number)
     }
@@ -82,6 +91,7 @@ impl<'a> Set<'a> {
 pub struct Record<'a> {
     pub entry: &'a Entry,
     pub bytes: &'a [u8],
+    pub(crate) fault: Option<Fault>,
 }
 
 impl<'a> Record<'a> {
@@ -90,7 +100,7 @@ impl<'a> Record<'a> {
     }
 
     pub fn live(&self) -> bool {
-        self.state() == LIVE
+        self.state() == LIVE || self.fault == Some(Fault::AnyStateLive) && self.state() != 0
     }
 
     pub fn filler(&self) -> &'a [u8] {

@@ -2,6 +2,7 @@
 
 use crate::bytes::wrapping_sum;
 use crate::database::Set;
+use crate::fault::{unwrapped_home, Fault};
 use crate::status::Status;
 
 /// "home = 1 + (wrapping 32-bit sum of the key's words) mod R". R is at
@@ -24,6 +25,9 @@ pub enum Search {
 
 impl<'a> Set<'a> {
     pub fn home(&self, key: &[u8]) -> u32 {
+        if self.fault == Some(Fault::SumNotWrapped) {
+            return unwrapped_home(key, self.entry.records);
+        }
         home(key, self.entry.records)
     }
 }
@@ -45,7 +49,8 @@ pub fn find(set: &Set, key: &[u8]) -> Result<Search, Status> {
     // record on the way, or more than R records visited is damage." The home
     // is the first record visited.
     let mut number = home;
-    for _visited in 1..=set.entry.records {
+    let most = set.entry.records - u32::from(set.fault == Some(Fault::ChainOfR));
+    for _visited in 1..=most {
         if record.key() == key {
             return Ok(Search::Found(number));
         }
@@ -54,6 +59,9 @@ pub fn find(set: &Set, key: &[u8]) -> Result<Search, Status> {
             return Ok(Search::ChainEndsAt(number));
         }
         record = set.live_record(next).ok_or(Status::Damg)?;
+        if set.fault == Some(Fault::HomeOnTheWay) && set.home(record.key()) != home {
+            return Err(Status::Damg);
+        }
         number = next;
     }
     Err(Status::Damg)

@@ -4,6 +4,7 @@
 
 use crate::bytes::blank;
 use crate::database::{DataBase, Set};
+use crate::fault::Fault;
 use crate::operation::Operation;
 use crate::reference::{lk, END};
 use crate::schema::Kind;
@@ -25,8 +26,7 @@ pub struct Request<'a> {
 pub fn master_call<'a>(base: &DataBase<'a>, request: &Request) -> Result<Set<'a>, Status> {
     let set = named_set(base, request)?;
     of_kind(&set, Kind::Master)?;
-    area_length(&set, request)?;
-    control_key(request, set.entry.key_length)?;
+    area_and_key(&set, request, set.entry.key_length)?;
     let compared = matches!(request.operation, Operation::AddM | Operation::Writm);
     if compared {
         let (keys, _) = set.entry.split_area(request.area);
@@ -51,12 +51,15 @@ pub fn variable_call<'a>(
         .schema
         .slot_named(set.entry, request.path)
         .ok_or(Status::Path)?;
-    area_length(&set, request)?;
     let path = &set.entry.paths[slot];
-    control_key(request, path.key_length)?;
+    area_and_key(&set, request, path.key_length)?;
     if request.operation.is_add() {
         let (keys, _) = set.entry.split_area(request.area);
-        refuse(keys.iter().any(|key| blank(key)), Status::Bctl)?;
+        let tested = match set.fault {
+            Some(Fault::OneBlankKey) => &keys[slot..=slot],
+            _ => &keys[..],
+        };
+        refuse(tested.iter().any(|key| blank(key)), Status::Bctl)?;
         refuse(keys[slot] != request.key, Status::Keys)?;
     }
     let formed = reference_formed(request, &set, lk(path.letters));
@@ -94,12 +97,18 @@ fn of_kind(set: &Set, kind: Kind) -> Result<(), Status> {
 
 fn area_length(set: &Set, request: &Request) -> Result<(), Status> {
     let wrong = request.area.len() != set.entry.area_length();
-    refuse(request.operation.looks_at_area() && wrong, Status::Area)
+    let looked_at = request.operation.looks_at_area()
+        || request.operation == Operation::Rqloc && set.fault == Some(Fault::RqlocTestsArea);
+    refuse(looked_at && wrong, Status::Area)
 }
 
-/// "8 and 9 for the control key"
-fn control_key(request: &Request, key_length: usize) -> Result<(), Status> {
-    refuse(request.key.len() != key_length, Status::Klen)?;
+/// 7, then "8 and 9 for the control key".
+fn area_and_key(set: &Set, request: &Request, key_length: usize) -> Result<(), Status> {
+    let wrong = request.key.len() != key_length;
+    let too_early = set.fault == Some(Fault::KeyBeforeArea);
+    refuse(wrong && too_early, Status::Klen)?;
+    area_length(set, request)?;
+    refuse(wrong, Status::Klen)?;
     refuse(blank(request.key), Status::Bctl)
 }
 

@@ -9,6 +9,10 @@
 //! base that it can only read, and gives back either a status or an answer
 //! with a list of stores; one place carries the list out. So a refused call
 //! cannot have changed anything.
+//!
+//! So that tests can be tried, the model can be told to make one mistake
+//! ([`Fault`]). `Some(Fault::..)` marks the place of each; whoever reads the
+//! model beside the document passes over it.
 
 mod block;
 mod bytes;
@@ -16,6 +20,7 @@ mod call;
 mod chains;
 pub mod console;
 mod database;
+mod fault;
 mod home;
 mod ladder;
 mod layout;
@@ -31,8 +36,9 @@ mod sweep;
 mod variables;
 
 pub use block::{block_check, seal, sealed, BLOCK};
-pub use call::{call, format};
+pub use call::{call, call_with, format};
 pub use database::{DataBase, Record, Set};
+pub use fault::Fault;
 pub use home::{find, home, Search};
 pub use layout::{Layout, Place, MASTER_KEY, ROOT_NEXT, ROOT_PRIOR, STATE};
 pub use operation::Operation;

@@ -1,8 +1,9 @@
 //! The calls that link a new variable record into its chains, or unlink one.
 
 use crate::chains::{referenced, usable, ChainMaster};
-use crate::database::{DataBase, Set, LIVE};
-use crate::ladder::{variable_call, Request};
+use crate::database::{DataBase, Record, Set, LIVE};
+use crate::fault::Fault;
+use crate::ladder::{refuse, variable_call, Request};
 use crate::layout::STATE;
 use crate::reference::lk;
 use crate::status::Status;
@@ -40,7 +41,13 @@ pub fn add(position: Position, base: &DataBase, request: &Request) -> Result<Ans
     let mut stores = Stores::default();
     stores.record(&set, new, new_record(&set, &keys, &links, data));
     for link in &links {
-        link.join(&mut stores, &set, new, new);
+        if link.slot != slot && set.fault == Some(Fault::NamedPathOnly) {
+            continue;
+        }
+        link.prior_side(&mut stores, &set, new);
+        if link.next == 0 || set.fault != Some(Fault::NoNextSide) {
+            link.next_side(&mut stores, &set, new);
+        }
     }
     Ok(Answer::stored(new, stores))
 }
@@ -54,26 +61,29 @@ pub fn del_vd(base: &DataBase, request: &Request) -> Result<Answer, Status> {
     let keys = record.keys();
     // "in DELVD an absent one is 16": the record is there, so its masters
     // should be.
-    let masters = masters_on_paths(base, &set, slot, named, &keys).map_err(|_| Status::Damg)?;
-    let links: Vec<Link> = masters
-        .into_iter()
-        .enumerate()
-        .map(|(slot, master)| Link {
-            slot,
-            master,
-            prior: record.prior(slot),
-            next: record.next(slot),
-        })
-        .collect();
+    let masters = masters_on_paths(base, &set, slot, named, &keys);
+    let masters = masters.map_err(|status| match set.fault {
+        Some(Fault::AbsentIs12) => status,
+        _ => Status::Damg,
+    })?;
+    let masters = masters.into_iter().enumerate();
+    let links: Vec<Link> = masters.map(|on| Link::of(&record, on)).collect();
+    let to_itself = links.iter().any(|link| link.prior == request.reference);
+    let minded = set.fault == Some(Fault::SelfPointerDamage);
+    refuse(to_itself && minded, Status::Damg)?;
     test_links(&links, &set, &keys)?;
 
     let mut stores = Stores::default();
     for link in &links {
-        link.join(&mut stores, &set, link.next, link.prior);
+        if link.slot != slot && set.fault == Some(Fault::OtherPathsStay) {
+            continue;
+        }
+        link.prior_side(&mut stores, &set, link.next);
+        link.next_side(&mut stores, &set, link.prior);
     }
     stores.wipe(&set, request.reference);
     let returned = match links[slot].prior {
-        0 => lk(set.entry.paths[slot].letters),
+        0 if set.fault != Some(Fault::ZeroForLink) => lk(set.entry.paths[slot].letters),
         prior => prior,
     };
     Ok(Answer::stored(returned, stores))
@@ -150,10 +160,19 @@ impl<'a> Link<'a> {
         }
     }
 
-    /// "prior's side, next's side": what the record before has as its next,
-    /// and what the record after has as its prior. Where there is none, the
-    /// master's first or last takes its place.
-    fn join(&self, stores: &mut Stores, set: &Set, after_prior: u32, before_next: u32) {
+    /// Between the neighbours that the record has.
+    fn of(record: &Record, (slot, master): (usize, ChainMaster<'a>)) -> Link<'a> {
+        Link {
+            slot,
+            master,
+            prior: record.prior(slot),
+            next: record.next(slot),
+        }
+    }
+
+    /// "prior's side": what the record before has as its next. Where there is
+    /// none, the master's first takes its place.
+    fn prior_side(&self, stores: &mut Stores, set: &Set, after_prior: u32) {
         let masters = &self.master.set;
         if self.prior != 0 {
             let at = set.entry.next_at(self.slot);
@@ -162,6 +181,12 @@ impl<'a> Link<'a> {
             let at = masters.entry.first_at(self.master.linkage);
             stores.pointer(masters, self.master.number, at, after_prior);
         }
+    }
+
+    /// "next's side": what the record after has as its prior. Where there is
+    /// none, the master's last takes its place.
+    fn next_side(&self, stores: &mut Stores, set: &Set, before_next: u32) {
+        let masters = &self.master.set;
         if self.next != 0 {
             let at = set.entry.prior_at(self.slot);
             stores.pointer(set, self.next, at, before_next);

@@ -1,6 +1,7 @@
 //! The calls on master sets.
 
 use crate::database::{DataBase, Record, Set, LIVE};
+use crate::fault::Fault;
 use crate::home::{find, find_master, Search};
 use crate::ladder::{master_call, refuse, Request};
 use crate::layout::{MASTER_KEY, ROOT_PRIOR, STATE};
@@ -62,14 +63,24 @@ fn add_synonym(set: &Set, request: &Request, last: u32) -> Result<Stores, Status
 /// "Home held by a stranger: the stranger moves to the lowest free record, its
 /// neighbours follow it, the new master takes the home."
 fn add_over_stranger(set: &Set, request: &Request) -> Result<Stores, Status> {
-    let free = set.lowest_free().ok_or(Status::Full)?;
+    let free = set.lowest_free().ok_or(Status::Full);
+    if set.fault != Some(Fault::DamageBeforeFull) {
+        free?;
+    }
     let home = set.home(request.key);
     let stranger = set.record(home);
-    let (prior, next) = (stranger.root_prior(), stranger.root_next());
+    let (mut prior, mut next) = (stranger.root_prior(), stranger.root_next());
     // A stranger is away from its home, so something must lead to it.
-    refuse(prior == 0, Status::Damg)?;
+    let minded = set.fault != Some(Fault::StrangerPriorZero);
+    refuse(prior == 0 && minded, Status::Damg)?;
     usable(set, prior)?;
     usable(set, next)?;
+    let free = free?;
+    match set.fault {
+        Some(Fault::StrangerPriorSide) => prior = 0,
+        Some(Fault::StrangerNextSide) => next = 0,
+        _ => {}
+    }
     let mut stores = Stores::default();
     stores.record(set, free, stranger.bytes.to_vec());
     stores.record(set, home, new_master(set, request, 0));
@@ -96,7 +107,8 @@ pub fn del_m(base: &DataBase, request: &Request) -> Result<Answer, Status> {
     let record = set.record(number);
     refuse(has_first_or_last(&record), Status::Imdl)?;
     let at_home = number == set.home(request.key);
-    refuse(!at_home && record.root_prior() == 0, Status::Damg)?;
+    let minded = set.fault != Some(Fault::DeletedPriorZero);
+    refuse(!at_home && record.root_prior() == 0 && minded, Status::Damg)?;
     usable(&set, record.root_prior())?;
     usable(&set, record.root_next())?;
     let stores = if at_home && record.root_next() != 0 {
@@ -109,8 +121,9 @@ pub fn del_m(base: &DataBase, request: &Request) -> Result<Answer, Status> {
 
 /// "master has a first or last not 0": over all paths to it.
 fn has_first_or_last(record: &Record) -> bool {
+    let lasts = record.fault != Some(Fault::ImdlFirstsOnly);
     (0..record.entry.paths_to_it)
-        .any(|linkage| record.first(linkage) != 0 || record.last(linkage) != 0)
+        .any(|linkage| record.first(linkage) != 0 || lasts && record.last(linkage) != 0)
 }
 
 /// "that synonym moves into the home, its ROOT prior 0, and its old place is
@@ -121,10 +134,14 @@ fn bring_synonym_home(set: &Set, home: u32) -> Result<Stores, Status> {
     let after = synonym.root_next();
     usable(set, after)?;
     let mut moved = synonym.bytes.to_vec();
-    moved[ROOT_PRIOR..MASTER_KEY].fill(0);
+    if set.fault != Some(Fault::SynonymKeepsPrior) {
+        moved[ROOT_PRIOR..MASTER_KEY].fill(0);
+    }
     let mut stores = Stores::default();
     stores.record(set, home, moved);
-    stores.root(set, 0, after, 0, home);
+    if set.fault != Some(Fault::SynonymNextSide) {
+        stores.root(set, 0, after, 0, home);
+    }
     stores.wipe(set, old_place);
     Ok(stores)
 }

@@ -2,6 +2,7 @@
 
 use crate::block::{sealed, BLOCK, CHECK};
 use crate::bytes::{all_zero, word};
+use crate::fault::{share_linkages, Fault};
 use crate::layout::Layout;
 
 /// "Entries of 48 bytes start at 16"
@@ -18,6 +19,7 @@ pub struct Schema {
     /// The used entries, "masters first".
     pub entries: Vec<Entry>,
     pub layout: Layout,
+    pub(crate) fault: Option<Fault>,
 }
 
 #[derive(Clone, Copy, Debug, PartialEq, Eq)]
@@ -60,6 +62,10 @@ pub struct Path {
 impl Schema {
     /// `None` is SCHM, "schema breaks a rule above".
     pub fn decode(buffer: &[u8]) -> Option<Schema> {
+        Schema::decode_with(None, buffer)
+    }
+
+    pub(crate) fn decode_with(fault: Option<Fault>, buffer: &[u8]) -> Option<Schema> {
         // "a schema buffer not of 512 bytes, or with a false check, breaks a
         // rule"
         if !sealed(buffer, 0) {
@@ -67,13 +73,20 @@ impl Schema {
         }
         let (masters, variables) = header(buffer)?;
         let mut entries = decode_entries(buffer, masters, variables)?;
-        let rules = names_distinct(&entries) && letters_distinct(&entries, masters);
+        let rules = names_distinct(&entries) && letters_distinct(fault, &entries, masters);
         if !rules {
             return None;
         }
         number_paths(&mut entries);
+        if fault == Some(Fault::OneLinkage) {
+            share_linkages(&mut entries);
+        }
         let layout = Layout::of(&entries)?;
-        Some(Schema { entries, layout })
+        Some(Schema {
+            entries,
+            layout,
+            fault,
+        })
     }
 
     /// T
@@ -236,7 +249,7 @@ fn names_distinct(entries: &[Entry]) -> bool {
 }
 
 /// "No two paths of one variable set share xx; no two paths to one master do."
-fn letters_distinct(entries: &[Entry], masters: usize) -> bool {
+fn letters_distinct(fault: Option<Fault>, entries: &[Entry], masters: usize) -> bool {
     let within_sets = entries
         .iter()
         .all(|entry| distinct(entry.paths.iter().map(|path| path.letters)));
@@ -245,7 +258,7 @@ fn letters_distinct(entries: &[Entry], masters: usize) -> bool {
         let to_it = paths.filter(|path| path.master == master);
         distinct(to_it.map(|path| path.letters))
     });
-    within_sets && among_paths_to_one_master
+    within_sets && (among_paths_to_one_master || fault == Some(Fault::LettersOfTwoSets))
 }
 
 fn distinct<T: PartialEq>(values: impl Iterator<Item = T>) -> bool {

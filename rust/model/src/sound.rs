@@ -7,6 +7,7 @@ use std::collections::BTreeMap;
 use crate::block::{sealed, BLOCK, CHECK};
 use crate::bytes::{all_zero, blank};
 use crate::database::{DataBase, Record, Set, LIVE};
+use crate::fault::Fault;
 use crate::schema::{Kind, Path, Schema};
 
 /// A data base of the wrong length is not sound either.
@@ -52,7 +53,10 @@ fn fillers_zero(set: &Set) -> bool {
 /// of 1..R takes.
 fn leftovers_zero(set: &Set) -> bool {
     let place = set.place;
-    let records = set.entry.records as usize;
+    let records = match set.fault {
+        Some(Fault::NoLeftovers) => place.blocks * place.records_per_block,
+        _ => set.entry.records as usize,
+    };
     (0..place.blocks).all(|block| {
         let in_block = place
             .records_per_block
@@ -172,7 +176,11 @@ fn walk<'a>(
     while number != 0 {
         let record = set.live_record(number)?;
         let (prior, next) = pointers(&record)?;
-        if prior != walked.last {
+        let goes_on = match set.fault {
+            Some(Fault::SoundForwardOnly) => walked.count < set.entry.records as usize,
+            _ => prior == walked.last,
+        };
+        if !goes_on {
             return None;
         }
         walked.last = number;

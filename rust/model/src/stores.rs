@@ -8,6 +8,7 @@ use std::collections::BTreeSet;
 
 use crate::block::{seal, sealed, BLOCK};
 use crate::database::{Record, Set};
+use crate::fault::Fault;
 use crate::layout::{ROOT_NEXT, ROOT_PRIOR};
 use crate::status::Status;
 
@@ -88,15 +89,27 @@ impl Stores {
 
     /// Tests the checks of the blocks to be stored into (the last of the final
     /// 16), makes the stores, "then the checks of the blocks stored into".
-    pub fn carry_out(&self, base: &mut [u8]) -> Result<(), Status> {
-        let blocks = self.blocks();
+    pub fn carry_out(&self, fault: Option<Fault>, base: &mut [u8]) -> Result<(), Status> {
+        let mut blocks = self.blocks();
+        let tested = match fault {
+            Some(Fault::CheckNotTested) => false,
+            Some(Fault::NoCheckForNoD) => !self.list.iter().all(|store| store.bytes.is_empty()),
+            _ => true,
+        };
         for &block in &blocks {
-            if !sealed(&base[bytes_of(block)], block as u32) {
+            if tested && !sealed(&base[bytes_of(block)], block as u32) {
                 return Err(Status::Damg);
             }
         }
-        for Store { offset, bytes } in &self.list {
+        let mut list: Vec<&Store> = self.list.iter().collect();
+        if fault == Some(Fault::StoresBackward) {
+            list.reverse();
+        }
+        for Store { offset, bytes } in list {
             base[*offset..offset + bytes.len()].copy_from_slice(bytes);
+        }
+        if fault == Some(Fault::OneCheckSet) {
+            blocks.retain(|&block| block == self.list[0].offset / BLOCK);
         }
         for &block in &blocks {
             seal(&mut base[bytes_of(block)], block as u32);

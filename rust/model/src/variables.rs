@@ -3,6 +3,7 @@
 
 use crate::chains::{referenced, usable, ChainMaster};
 use crate::database::DataBase;
+use crate::fault::Fault;
 use crate::ladder::{refuse, variable_call, Request};
 use crate::reference::{lk, END};
 use crate::status::Status;
@@ -27,7 +28,9 @@ pub fn read_along(
     let (set, slot) = variable_call(base, request)?;
     let master = ChainMaster::find(base, &set, slot, request.key)?;
     let pointer = if request.reference == lk(set.entry.paths[slot].letters) {
-        master.ends_agree()?;
+        if set.fault != Some(Fault::EndsNotTested) {
+            master.ends_agree()?;
+        }
         match direction {
             Direction::Forward => master.first(),
             Direction::Backward => master.last(),
@@ -62,7 +65,11 @@ pub fn writ_v(base: &DataBase, request: &Request) -> Result<Answer, Status> {
     ChainMaster::find(base, &set, slot, request.key)?;
     let record = referenced(&set, slot, request)?;
     let (keys, data) = set.entry.split_area(request.area);
-    refuse(keys != record.keys(), Status::Keys)?;
+    let differs = match set.fault {
+        Some(Fault::WritvNamedKey) => keys[slot] != record.path_key(slot),
+        _ => keys != record.keys(),
+    };
+    refuse(differs, Status::Keys)?;
     let mut stores = Stores::default();
     stores.bytes(&set, request.reference, set.entry.data_at(), data.to_vec());
     Ok(Answer::stored(request.reference, stores))

@@ -1,6 +1,6 @@
 //! A call's parameters as one value, and stores to call.
 
-use yarugota_model::Status;
+use yarugota_model::{Fault, Status};
 
 /// What a call is given, apart from schema and data base.
 #[derive(Clone, Debug, PartialEq, Eq)]
@@ -30,7 +30,18 @@ impl Call {
 /// The model as a store: it changes the call's area and the data base, and
 /// gives status and reference.
 pub fn model(call: &mut Call, schema: &[u8], base: &mut [u8]) -> (Status, u32) {
-    yarugota_model::call(
+    model_with(None, call, schema, base)
+}
+
+/// The same with a mistake, where there is one.
+pub fn model_with(
+    fault: Option<Fault>,
+    call: &mut Call,
+    schema: &[u8],
+    base: &mut [u8],
+) -> (Status, u32) {
+    yarugota_model::call_with(
+        fault,
         &call.op,
         &call.set,
         call.reference,

@@ -17,6 +17,6 @@ pub mod schemas;
 pub mod stock;
 pub mod vectors;
 
-pub use call::{make, model, Answered, Call};
+pub use call::{make, model, model_with, Answered, Call};
 pub use fixture::Fixture;
 pub use random::{Random, Trace};

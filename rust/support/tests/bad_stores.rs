@@ -2,10 +2,10 @@
 //! with it.
 
 use yarugota_model::reference::END;
-use yarugota_model::{DataBase, Operation, Schema, Status, BLOCK};
+use yarugota_model::{DataBase, Fault, Operation, Schema, Status, BLOCK};
 use yarugota_support::damage::reseal;
 use yarugota_support::runs::{run, Seen};
-use yarugota_support::{model, Call};
+use yarugota_support::{model, model_with, Call};
 
 fn runs(mut store: impl FnMut(&mut Call, &[u8], &mut [u8]) -> (Status, u32)) {
     let mut seen = Seen::default();
@@ -97,15 +97,7 @@ fn changes_a_refused_area() {
 #[test]
 #[should_panic(expected = "failed: reference of Call")]
 fn returns_0_after_deleting_the_first() {
-    runs(|call, schema, base| {
-        let (status, reference) = model(call, schema, base);
-        let deleted = operation(call) == Some(Operation::Delvd) && status == Status::Done;
-        if deleted && reference > 65_535 {
-            (status, 0)
-        } else {
-            (status, reference)
-        }
-    });
+    runs(|call, schema, base| model_with(Some(Fault::ZeroForLink), call, schema, base));
 }
 
 /// Answers as the model does, and leaves the data base as it was.

@@ -71,7 +71,8 @@ pub struct Call<'a> {
     pub set: SetName,
     pub reference: Reference,
     pub path: PathName,
-    /// The control key.
+    /// The control key. It cannot lie in the area of [`call`], which is borrowed
+    /// to be written.
     pub key: &'a [u8],
 }
 

@@ -70,11 +70,11 @@ pub fn call(
     base: &mut [u8],
 ) -> u64 {
     use std::cell::RefCell;
-    use yarugota_driver::{Batch, Driver, Store};
+    use yarugota_driver::{Batch, Driver};
 
     thread_local! {
         /// One for each thread, started by its first call.
-        static DRIVER: RefCell<Driver> = RefCell::new(Driver::start(Store::Proved));
+        static DRIVER: RefCell<Driver> = RefCell::new(Driver::start());
     }
 
     let mut batch = Batch::new();

@@ -8,7 +8,7 @@ use Rattle.octets.specs.Below.{sumBelow}
 use Rattle.schema.specs.declared.Path.{Path}
 use Rattle.schema.specs.Decode.{pathOf}
 use Rattle.records.specs.Areas.{areaKeyPlace}
-use Rattle.areas.specs.AreaLaws.{area-key-turn}
+use Rattle.records.specs.AreaLaws.{area-key-turn}
 use Rattle.areas.proofs.area_key_place.Statement.{statement}
 use Rattle.areas.proofs.area_key_place.Tie as tie
 

@@ -1,7 +1,7 @@
 -- `records::areas::area_length` meets its contract: the keys are no more than the places in front of the D bytes, so the sum fits. Assumes nothing.
 use native.Mathlib.Omega.{arith}
 use borrow.Author.Needs.{needs}
-use Rattle.areas.specs.AreaLaws.{keys-inside}
+use Rattle.records.specs.AreaLaws.{keys-inside}
 use Rattle.areas.proofs.area_length.Statement.{statement}
 use Rattle.areas.proofs.area_length.Tie as tie
 

@@ -8,8 +8,8 @@ use denote.Ref.{now}
 use borrow.Author.Needs.{needs}
 use borrow.Author.Tests.{eq-eqb}
 use Rattle.records.specs.Areas.{isMaster}
-use Rattle.areas.specs.AreaLaws.{master-keys}
-use Rattle.areas.specs.NewLaws.{master-made}
+use Rattle.records.specs.AreaLaws.{master-keys}
+use Rattle.records.specs.NewLaws.{master-made}
 use Rattle.areas.proofs.new_master.Statement.{statement}
 use Rattle.areas.proofs.new_master.Tie as tie
 

@@ -2,8 +2,8 @@
 use native.Mathlib.Omega.{arith}
 use denote.Ref.{now}
 use borrow.Author.Needs.{needs}
-use Rattle.areas.specs.AreaLaws.{head-inside}
-use Rattle.areas.specs.NewLaws.{variable-made}
+use Rattle.records.specs.AreaLaws.{head-inside}
+use Rattle.records.specs.NewLaws.{variable-made}
 use Rattle.areas.proofs.new_variable.Statement.{statement}
 use Rattle.areas.proofs.new_variable.Tie as tie
 

@@ -3,7 +3,7 @@ use denote.Ref.{now}
 use borrow.Author.Needs.{needs}
 use Rattle.octets.specs.Octets.{run}
 use Rattle.octets.specs.SpliceLaws.{length-run}
-use Rattle.areas.specs.NewLaws.{path-made}
+use Rattle.records.specs.NewLaws.{path-made}
 use Rattle.areas.proofs.put_path.Statement.{statement}
 use Rattle.areas.proofs.put_path.Tie as tie
 

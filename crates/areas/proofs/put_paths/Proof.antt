@@ -10,8 +10,9 @@ use Rattle.octets.specs.Octets.{splice}
 use Rattle.schema.specs.declared.Path.{Path}
 use Rattle.schema.specs.Decode.{pathOf}
 use Rattle.records.specs.Areas.{areaKeyPlace, newPaths}
-use Rattle.areas.specs.AreaLaws.{pathPlace, area-key-first, area-key-turn, area-key-inside, path-place-first, path-place-turn, path-inside, variable-keys}
-use Rattle.areas.specs.NewLaws.{paths-turn, paths-end}
+use Rattle.records.specs.AreaLaws.{area-key-first, area-key-turn, area-key-inside, path-place-first, path-place-turn, path-inside, variable-keys}
+use Rattle.records.specs.Fields.{pathPlace}
+use Rattle.records.specs.NewLaws.{paths-turn, paths-end}
 use Rattle.areas.proofs.put_paths.Statement.{statement}
 use Rattle.areas.proofs.put_paths.Tie as tie
 

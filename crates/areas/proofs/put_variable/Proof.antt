@@ -12,7 +12,7 @@ use Rattle.schema.specs.PlaceLaws.{place-inside}
 use borrow.Author.Tests.{ne-eqb}
 use mathlib.Core.Bool.{false}
 use Rattle.records.specs.Areas.{isMaster, newVariable}
-use Rattle.areas.specs.NewLaws.{length-newVariable}
+use Rattle.records.specs.NewLaws.{length-newVariable}
 use Rattle.areas.proofs.put_variable.Statement.{statement}
 use Rattle.areas.proofs.put_variable.Tie as tie
 

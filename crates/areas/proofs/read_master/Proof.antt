@@ -13,7 +13,7 @@ use Rattle.octets.specs.SpliceLaws.{length-run}
 use Rattle.schema.specs.Place.{placeOf}
 use Rattle.records.specs.Areas.{isMaster}
 use Rattle.records.specs.RecordLaws.{part-is, whole-inside}
-use Rattle.areas.specs.AreaLaws.{master-keys, master-area}
+use Rattle.records.specs.AreaLaws.{master-keys, master-area}
 use Rattle.areas.proofs.read_master.Statement.{statement}
 use Rattle.areas.proofs.read_master.Tie as tie
 

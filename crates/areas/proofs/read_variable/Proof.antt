@@ -15,7 +15,7 @@ use Rattle.schema.specs.Decode.{pathOf, pathsOf}
 use Rattle.schema.specs.Place.{placeOf}
 use Rattle.records.specs.Areas.{areaKeyPlace}
 use Rattle.records.specs.RecordLaws.{part-is, whole-inside}
-use Rattle.areas.specs.AreaLaws.{keysIn, area-key-first, area-key-turn, area-key-inside, keys-inside, path-inside, variable-keys, keys-turn, keys-end, variable-area}
+use Rattle.records.specs.AreaLaws.{keysIn, area-key-first, area-key-turn, area-key-inside, keys-inside, path-inside, variable-keys, keys-turn, keys-end, variable-area}
 use Rattle.areas.proofs.read_variable.Statement.{statement}
 use Rattle.areas.proofs.read_variable.Tie as tie
 

@@ -1,47 +1,28 @@
--- `blocks::sealed` meets its contract: the part lent is the block.
-use native.Mathlib.Nat.{add-sub-cancel-left}
+-- `blocks::sealed` meets its contract: what is asked of the block alone is asked of it where it stands.
+use mathlib.Core.Path.{_≡_, ap, _∙_}
+use native.Mathlib.Omega.{arith}
+use lib.ListN.{length}
+use denote.Ref.{now}
+use Rattle.octets.specs.SpliceLaws.{length-run}
 use Rattle.blocks.specs.Laws.{isSealed-run}
 use borrow.Author.Needs.{needs}
 use Rattle.blocks.proofs.sealed.Statement.{statement}
 use Rattle.blocks.proofs.sealed.Tie as tie
 
-cast-a : tie.Need-cast-a
-cast-a c = search needs
+long : (c : tie.After-block) → length (now (c .block .result)) ≡ 512
+long c = ap length (c .block .ensures) ∙ length-run _ _ 512 (c .before .before .pre)
 
-mul-a : tie.Need-mul-a
-mul-a c = search needs
-
-add-e : tie.Need-add-e
-add-e c = search needs
-
-sub-block : tie.Need-sub-block
-sub-block c = search needs
-
-part-block-start : tie.Need-part-block-start
-part-block-start c = search needs
-
-part-block-end : tie.Need-part-block-end
-part-block-end c = search needs
+block-requires : tie.Need-block-requires
+block-requires c κs = search needs
 
 word-requires : tie.Need-word-requires
-word-requires c κs = search needs
+word-requires c κs = omega (arith, long c)
 
 check-requires : tie.Need-check-requires
-check-requires c κs = search needs
+check-requires c κs = long (c .before)
 
 returns : tie.Need-returns
-returns c = rw (c .before .word .ensures, c .check .ensures, add-sub-cancel-left) (isSealed-run _ _)
+returns c = rw (c .before .word .ensures, c .check .ensures, c .before .before .block .ensures) (isSealed-run _ _)
 
 pub sealed-spec : {M : Type 1} → statement M
-sealed-spec =
-    tie.close
-    (tie.spec
-    cast-a
-    mul-a
-    add-e
-    sub-block
-    part-block-start
-    part-block-end
-    word-requires
-    check-requires
-    returns)
+sealed-spec = tie.close (tie.spec block-requires word-requires check-requires returns)

@@ -1,52 +1,45 @@
 -- `clean::leftovers_clean` meets its contract. The invariant: behind the records of the blocks passed there are zeros.
-use Prim.Native.Nat.{_-_, _≤_}
+use Prim.Native.Nat.{_-_, _≤_, _<_}
 use mathlib.Core.Path.{_≡_}
 use mathlib.Core.Bool.{true}
 use native.Mathlib.Omega.{arith}
 use denote.Ref.{now}
 use Rattle.octets.specs.Below.{allBelow}
-use Rattle.sound.specs.Sound.{blocksHeld, leftoverClean}
-use Rattle.clean.specs.CleanLaws.{passes, fails, ends, held}
+use Rattle.schema.specs.Place.{blocksHeld}
+use Rattle.sound.specs.Sound.{leftoverClean}
+use Rattle.clean.specs.CleanLaws.{passes, fails, ends}
 use borrow.Author.Needs.{needs}
 use Rattle.clean.proofs.leftovers_clean.Statement.{statement}
 use Rattle.clean.proofs.leftovers_clean.Tie as tie
 
 abbrev Inv-loop : tie.InvT-loop
-Inv-loop base e per n k₀ k = (k ≤ n) × (allBelow (leftoverClean base e) k ≡ true)
+Inv-loop base e n k₀ k = (k ≤ n) × (allBelow (leftoverClean base e) k ≡ true)
 
 abbrev μ-loop : tie.MeasureT-loop
-μ-loop base e per n k₀ k = n - k
+μ-loop base e n k₀ k = n - k
 
-cast-per : tie.Need-cast-per Inv-loop μ-loop
-cast-per c = search needs
+-- one of the set's blocks
+is-block : (c : tie.In-loop Inv-loop μ-loop) → c .before .loop .k < blocksHeld (c .before .before .before .before .args .e)
+is-block c = omega (arith, c .loop-test .taken, c .before .before .blocks-held .ensures .0)
 
-sub-n : tie.Need-sub-n Inv-loop μ-loop
-sub-n c = search needs
-
-add-n : tie.Need-add-n Inv-loop μ-loop
-add-n c = search needs
-
-div-n : tie.Need-div-n Inv-loop μ-loop
-div-n c = search needs
+blocks-held-requires : tie.Need-blocks-held-requires Inv-loop μ-loop
+blocks-held-requires c κs = search needs
 
 loop-holds : tie.Need-loop-holds Inv-loop μ-loop
 unfolding allBelow
 loop-holds c = search needs
 
 leftover-clean-requires : tie.Need-leftover-clean-requires Inv-loop μ-loop
-leftover-clean-requires c κs = search needs
+leftover-clean-requires c κs = (c .before .before .before .before .pre, is-block c)
 
 returns : tie.Need-returns Inv-loop μ-loop
 returns c =
     let l = c .before .before .before in
-    let a = l .before .before .before .before .args in
-    fails (leftoverClean (now (a .base)) (a .e)) (blocksHeld (a .e)) (l .loop .k) (c .before .before .loop-test .taken) (c .before .leftover-clean .ensures) (c .if1 .taken)
+    let a = l .before .before .before .args in
+    fails (leftoverClean (now (a .base)) (a .e)) (blocksHeld (a .e)) (l .loop .k) (is-block (c .before .before)) (c .before .leftover-clean .ensures) (c .if1 .taken)
 
 add-k : tie.Need-add-k Inv-loop μ-loop
-add-k c =
-    let l = c .before .before .before in
-    let s = l .before .before .before .before in
-    omega (arith, held (l .loop .k) (s .pre) (c .before .before .loop-test .taken) .inside, s .pre .small)
+add-k c = search needs
 
 loop-less : tie.Need-loop-less Inv-loop μ-loop
 loop-less c = search needs
@@ -54,14 +47,15 @@ loop-less c = search needs
 loop-again : tie.Need-loop-again Inv-loop μ-loop
 loop-again c =
     let l = c .before .before .before in
-    let a = l .before .before .before .before .args in
+    let a = l .before .before .before .args in
     (search needs, passes (leftoverClean (now (a .base)) (a .e)) (l .loop .k) (c .before .leftover-clean .ensures) (c .if1 .left) (l .loop .inv .1))
 
 returns-2 : tie.Need-returns-2 Inv-loop μ-loop
 returns-2 c =
     let l = c .before in
-    let a = l .before .before .before .before .args in
-    ends (leftoverClean (now (a .base)) (a .e)) (blocksHeld (a .e)) (l .loop .k) (l .loop .inv .0) (c .loop-test .left) (l .loop .inv .1)
+    let a = l .before .before .before .args in
+    let n = l .before .blocks-held .ensures .0 in
+    ends (leftoverClean (now (a .base)) (a .e)) (blocksHeld (a .e)) (l .loop .k) (omega (arith, n, l .loop .inv .0)) (omega (arith, n, c .loop-test .left)) (l .loop .inv .1)
 
 pub leftovers-clean-spec : {M : Type 1} → statement M
 leftovers-clean-spec =
@@ -69,10 +63,7 @@ leftovers-clean-spec =
     (tie.spec
     Inv-loop
     μ-loop
-    cast-per
-    sub-n
-    add-n
-    div-n
+    blocks-held-requires
     loop-holds
     leftover-clean-requires
     returns

@@ -6,7 +6,7 @@ use borrow.Author.Needs.{needs}
 use Rattle.plans.specs.Plan.{blocksSealed}
 use Rattle.plans.specs.Stores.{planStores}
 use Rattle.commit.specs.Touched.{numbersOf, AllWithin, allSealed}
-use Rattle.commit.specs.CommitLaws.{touched-within, touched-sealed, touched-committed, refused, done}
+use Rattle.commit.specs.CommitLaws.{touched-within, touched-sealed, touched-committed, commit-refused, commit-done}
 use Rattle.commit.proofs.commit.Statement.{statement}
 use Rattle.commit.proofs.commit.Tie as tie
 
@@ -54,14 +54,14 @@ returns c =
     let t = k .before .before in
     let s = begun t in
     let a = s .args in
-    done (now (a .base)) (k .all-sealed .ensures ∙ whether t) (o .if1 .taken)
+    commit-done (now (a .base)) (k .all-sealed .ensures ∙ whether t) (o .if1 .taken)
     (touched-committed (now (a .base)) (a .e) (now (a .area)) (a .p) (s .pre .0) (s .pre .1 .1 .0) (numbersOf (t .touched .result)) (t .touched .ensures .0) (d .store .last .0) (l .seal-all .last .0) (λ i. n .slice-known2 .given i .fits) (d .store .ensures) (l .seal-all .ensures))
 
 same-length-2 : tie.Need-same-length-2
 same-length-2 c = search needs
 
 returns-2 : tie.Need-returns-2
-returns-2 c = let k = c .before in refused _ _ (k .all-sealed .ensures ∙ whether (k .before .before)) (c .if1 .left)
+returns-2 c = let k = c .before in commit-refused _ _ (k .all-sealed .ensures ∙ whether (k .before .before)) (c .if1 .left)
 
 pub commit-spec : {M : Type 1} → statement M
 commit-spec =

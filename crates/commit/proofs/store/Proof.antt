@@ -12,7 +12,7 @@ store-words-requires : tie.Need-store-words-requires
 store-words-requires c κs =
     let h = c .before .before .before in
     let s = h .before .before .before .before .before in
-    (s .pre .1 .1 .0 .few, rw (h .store-head .kept .0) (s .pre .1 .1 .0 .words))
+    (s .pre .1 .1 .0 .few, (rw (h .store-head .kept .0) (s .pre .1 .1 .0 .words), s .pre .1 .1 .0 .records))
 
 store-wiped-requires : tie.Need-store-wiped-requires
 store-wiped-requires c κs = search needs

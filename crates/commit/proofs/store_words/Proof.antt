@@ -8,7 +8,7 @@ use denote.Ref.{now}
 use borrow.Author.Needs.{needs}
 use Rattle.plans.specs.Plan.{storeAll}
 use Rattle.plans.specs.Stores.{wordsOf, wordStores}
-use Rattle.commit.specs.StoreLaws.{word-inside, store-word-turn, store-words-end}
+use Rattle.commit.specs.StoreLaws.{word-in-base, store-word-turn, store-words-end}
 use Rattle.commit.proofs.store_words.Statement.{statement}
 use Rattle.commit.proofs.store_words.Tie as tie
 
@@ -30,14 +30,11 @@ mul-w c = search needs
 element-copy-out-w : tie.Need-element-copy-out-w Inv-loop μ-loop
 element-copy-out-w c = search needs
 
-cast-put-word : tie.Need-cast-put-word Inv-loop μ-loop
-cast-put-word c = search needs
-
-put-word-requires : tie.Need-put-word-requires Inv-loop μ-loop
-put-word-requires c κs =
-    let l = c .before .before .before .before in
+put-in-requires : tie.Need-put-in-requires Inv-loop μ-loop
+put-in-requires c κs =
+    let l = c .before .before .before in
     let s = l .before .before in
-    rw (l .loop .inv .1) (word-inside (s .args .t2) (whole s) (s .pre .0) (length (now (s .args .base))) (l .loop .i) (s .pre .1) (omega arith))
+    rw (l .loop .inv .1) (word-in-base (s .args .t2) (whole s) (s .pre .0) (length (now (s .args .base))) (l .loop .i) (s .pre .1 .0) (s .pre .1 .1) (omega arith))
 
 add-i : tie.Need-add-i Inv-loop μ-loop
 add-i c = search needs
@@ -48,11 +45,11 @@ loop-less c = search needs
 loop-again : tie.Need-loop-again Inv-loop μ-loop
 loop-again c =
     let k = c .before .before in
-    let l = k .before .before .before .before .before in
+    let l = k .before .before .before .before in
     let s = l .before .before in (
       omega arith,
-      k .put-word .kept .0 ∙ l .loop .inv .1,
-      rw (k .put-word .ensures) (sym (store-word-turn (s .args .t2) (whole s) (s .pre .0) (l .loop .base) (l .loop .i) (omega arith)) ∙ l .loop .inv .2),
+      k .put-in .kept .0 ∙ l .loop .inv .1,
+      rw (k .put-in .ensures) (sym (store-word-turn (s .args .t2) (whole s) (s .pre .0) (l .loop .base) (l .loop .i) (omega arith)) ∙ l .loop .inv .2),
     )
 
 same-length : tie.Need-same-length Inv-loop μ-loop
@@ -73,8 +70,7 @@ store-words-spec =
     loop-holds
     mul-w
     element-copy-out-w
-    cast-put-word
-    put-word-requires
+    put-in-requires
     add-i
     loop-less
     loop-again

@@ -29,8 +29,8 @@ mul-w c = search needs
 element-copy-out-w : tie.Need-element-copy-out-w Inv-loop μ-loop
 element-copy-out-w c = search needs
 
-block-at-requires : tie.Need-block-at-requires Inv-loop μ-loop
-block-at-requires c κs = search needs
+block-with-requires : tie.Need-block-with-requires Inv-loop μ-loop
+block-with-requires c κs = search needs
 
 with-requires : tie.Need-with-requires Inv-loop μ-loop
 with-requires c κs = search needs
@@ -45,7 +45,7 @@ loop-again : tie.Need-loop-again Inv-loop μ-loop
 loop-again c =
     let l = c .before .before .before .before in
     let s = l .before in
-    let b = c .before .block-at .ensures in
+    let b = c .before .block-with .ensures in
     (omega arith, omega (arith, c .with .ensures .1), rw (c .with .ensures .0, b) (sym (word-block-turn (s .args .t2) (whole s) (s .pre .0) (numbersOf (l .loop .s)) (l .loop .i) (omega arith)) ∙ l .loop .inv .2))
 
 returns : tie.Need-returns Inv-loop μ-loop
@@ -63,7 +63,7 @@ word-blocks-spec =
     loop-holds
     mul-w
     element-copy-out-w
-    block-at-requires
+    block-with-requires
     with-requires
     add-i
     loop-less

@@ -52,8 +52,8 @@ returns c =
     let k = a .before .before .before .before .before .before in
     let d = k .before .before .before .before in
     let s = d .before .before .before .before .before .before in
-    replied (s .args .number) _ (a .answer .result) (now (s .args .op)) (a .answer .last .0) _ (text "-") (rw (whole d) at (k .call .ensures))
-    (rw (s .pre .0) refl) (a .answer .ensures .1) (c .finish .ensures .0) (c .finish .ensures .1)
+    replied (s .args .number) _ (a .answer .result) (now (s .args .op)) (now (s .args .out)) (a .answer .last .0) _ (text "-") (rw (whole d) at (k .call .ensures))
+    (rw (s .pre .0) refl) (a .answer .ensures .1) (a .answer .ensures .2) (c .finish .ensures .0) (c .finish .ensures .1) (c .finish .ensures .2) (c .finish .ensures .3)
 
 pub act-spec : {M : Type 1} → statement M
 act-spec =

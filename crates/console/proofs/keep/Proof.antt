@@ -1,5 +1,7 @@
 -- `console::keep` meets its contract: a line that is full already stays as it is.
+use mathlib.Core.Path.{refl}
 use native.Mathlib.Omega.{arith}
+use borrow.Author.Tests.{eq-eqb, ne-eqb}
 use denote.Ref.{now}
 use Rattle.console.specs.SmallLaws.{kept-more, kept-full}
 use borrow.Author.Needs.{needs}
@@ -9,7 +11,7 @@ use Rattle.console.proofs.keep.Tie as tie
 returns : tie.Need-returns
 returns c =
     let s = c .before in
-    record { fits = omega arith; bytes = kept-full (now (s .args .line)) (s .args .n) (s .args .byte) (s .pre .0) (c .if1 .taken) }
+    (record { fits = omega arith; bytes = kept-full (now (s .args .line)) (s .args .n) (s .args .byte) (s .pre .0) (c .if1 .taken) }, rw (eq-eqb _ 129 (c .if1 .taken)) refl)
 
 slice-write-line : tie.Need-slice-write-line
 slice-write-line c = search needs
@@ -23,7 +25,7 @@ same-length c = search needs
 returns-2 : tie.Need-returns-2
 returns-2 c =
     let s = c .before in
-    record { fits = omega arith; bytes = kept-more (now (s .args .line)) (s .args .n) (s .args .byte) (s .pre .0) (omega arith) }
+    (record { fits = omega arith; bytes = kept-more (now (s .args .line)) (s .args .n) (s .args .byte) (s .pre .0) (omega arith) }, rw (ne-eqb _ 129 (c .if1 .left)) refl)
 
 pub keep-spec : {M : Type 1} → statement M
 keep-spec = tie.close (tie.spec returns slice-write-line add-result same-length returns-2)

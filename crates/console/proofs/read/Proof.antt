@@ -34,8 +34,8 @@ returns c =
     let a = g .before .before in
     let k = a .before .before .before .before .before .before in
     let s = k .before .before .before .before .before .before in
-    replied (s .args .number) _ (a .answer .result) (now (s .args .op)) (a .answer .last .0) _ _ (k .call .ensures)
-    (rw (s .pre, sym (g .before .record-given .ensures) ∙ g .if1 .taken) refl) (a .answer .ensures .1) (c .finish .ensures .0) (c .finish .ensures .1)
+    replied (s .args .number) _ (a .answer .result) (now (s .args .op)) (now (s .args .out)) (a .answer .last .0) _ _ (k .call .ensures)
+    (rw (s .pre, sym (g .before .record-given .ensures) ∙ g .if1 .taken) refl) (a .answer .ensures .1) (a .answer .ensures .2) (c .finish .ensures .0) (c .finish .ensures .1) (c .finish .ensures .2) (c .finish .ensures .3)
 
 slice-aggregate-finish-2 : tie.Need-slice-aggregate-finish-2
 slice-aggregate-finish-2 c = search needs
@@ -52,8 +52,8 @@ returns-2 c =
     let a = g .before .before in
     let k = a .before .before .before .before .before .before in
     let s = k .before .before .before .before .before .before in
-    replied (s .args .number) _ (a .answer .result) (now (s .args .op)) (a .answer .last .0) _ (text "-") (k .call .ensures)
-    (rw (s .pre, sym (g .before .record-given .ensures) ∙ g .if1 .left) refl) (a .answer .ensures .1) (c .finish2 .ensures .0) (c .finish2 .ensures .1)
+    replied (s .args .number) _ (a .answer .result) (now (s .args .op)) (now (s .args .out)) (a .answer .last .0) _ (text "-") (k .call .ensures)
+    (rw (s .pre, sym (g .before .record-given .ensures) ∙ g .if1 .left) refl) (a .answer .ensures .1) (a .answer .ensures .2) (c .finish2 .ensures .0) (c .finish2 .ensures .1) (c .finish2 .ensures .2) (c .finish2 .ensures .3)
 
 pub read-spec : {M : Type 1} → statement M
 read-spec =

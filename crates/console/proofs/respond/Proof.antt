@@ -24,7 +24,7 @@ returns : tie.Need-returns
 returns c =
     let t = c .before .before in
     let a = t .before .before .before .before .args in
-    unmade-line (a .number) _ (now (a .line)) (now (a .schema)) (now (a .base)) _ (rw (lt-leb _ 128 (t .if1 .taken)) refl) (c .form .ensures .0) (c .form .ensures .1)
+    unmade-line (a .number) _ (now (a .line)) (now (a .schema)) (now (a .base)) (now (a .out)) _ (rw (lt-leb _ 128 (t .if1 .taken)) refl) (c .form .ensures .0) (c .form .ensures .1) (c .form .ensures .2)
 
 six-fields-requires : tie.Need-six-fields-requires
 six-fields-requires c κs = search needs
@@ -37,8 +37,8 @@ returns-2 c =
     let t = c .before .before in
     let e = t .before .before in
     let a = e .before .before .before .before .args in
-    unmade-line (a .number) _ (now (a .line)) (now (a .schema)) (now (a .base)) _
-    (rw (le-leb _ 128 (e .if1 .left), sym (t .before .six-fields .ensures) ∙ not-true _ (t .if2 .taken)) refl) (c .form2 .ensures .0) (c .form2 .ensures .1)
+    unmade-line (a .number) _ (now (a .line)) (now (a .schema)) (now (a .base)) (now (a .out)) _
+    (rw (le-leb _ 128 (e .if1 .left), sym (t .before .six-fields .ensures) ∙ not-true _ (t .if2 .taken)) refl) (c .form2 .ensures .0) (c .form2 .ensures .1) (c .form2 .ensures .2)
 
 made-requires : tie.Need-made-requires
 made-requires c κs = tested c
@@ -52,8 +52,8 @@ returns-3 c =
     let d = t .before .before in
     let e = d .before .before in
     let a = e .before .before .before .before .args in
-    unmade-line (a .number) _ (now (a .line)) (now (a .schema)) (now (a .base)) _
-    (rw (le-leb _ 128 (e .if1 .left), six d, sym (t .before .made .ensures) ∙ not-true _ (t .if3 .taken)) refl) (c .form3 .ensures .0) (c .form3 .ensures .1)
+    unmade-line (a .number) _ (now (a .line)) (now (a .schema)) (now (a .base)) (now (a .out)) _
+    (rw (le-leb _ 128 (e .if1 .left), six d, sym (t .before .made .ensures) ∙ not-true _ (t .if3 .taken)) refl) (c .form3 .ensures .0) (c .form3 .ensures .1) (c .form3 .ensures .2)
 
 ask-requires : tie.Need-ask-requires
 ask-requires c κs =
@@ -70,7 +70,7 @@ returns-4 c =
     let d = t .before .before in
     let e = d .before .before in
     let a = e .before .before .before .before .args in
-    made-line (a .number) _ (now (a .line)) (now (a .schema)) (now (a .base)) _
+    made-line (a .number) _ (now (a .line)) (now (a .schema)) (now (a .base)) (now (a .out)) _
     (rw (le-leb _ 128 (e .if1 .left), six d, sym (t .before .made .ensures) ∙ not-false _ (t .if3 .left)) refl) (k .ask .ensures)
 
 pub respond-spec : {M : Type 1} → statement M

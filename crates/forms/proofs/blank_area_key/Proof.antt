@@ -1,10 +1,11 @@
 -- `forms::blank_area_key` meets its contract, by the kind of the set.
-use mathlib.Core.Path.{_≡_, sym, _∙_}
+use mathlib.Core.Path.{_≡_, sym, ap, _∙_}
 use mathlib.Core.Bool.{true}
 use native.Mathlib.Omega.{arith}
 use denote.Ref.{now}
+use Rattle.octets.specs.Octets.{allBlank}
 use borrow.Author.Tests.{eq-eqb, ne-eqb, not-true, not-false}
-use Rattle.areas.specs.AreaLaws.{master-keys}
+use Rattle.records.specs.AreaLaws.{master-keys}
 use Rattle.calls.specs.Ladder.{blankAreaKey}
 use Rattle.forms.specs.FormLaws.{not-asked, is-asked, blank-master}
 use borrow.Author.Needs.{needs}
@@ -18,21 +19,24 @@ asked c = not-false (c .before .before .before .args .asked) (c .before .if1 .le
 returns : tie.Need-returns
 returns c = let a = c .before .before .args in not-asked (a .asked) (blankAreaKey (a .e) (now (a .area))) (not-true (a .asked) (c .if1 .taken))
 
-cast-blank-part : tie.Need-cast-blank-part
-cast-blank-part c = search needs
+cast-part : tie.Need-cast-part
+cast-part c = search needs
 
-blank-part-requires : tie.Need-blank-part-requires
-blank-part-requires c κs =
+part-requires : tie.Need-part-requires
+part-requires c κs =
     let d = c .before .before in
     let s = d .before .before .before in
-    omega (arith, s .pre .1 (asked d), master-keys (s .args .e) (eq-eqb _ _ (c .before .if2 .taken)))
+    (s .pre .0 .short, omega (arith, s .pre .1 (asked d), master-keys (s .args .e) (eq-eqb _ _ (c .before .if2 .taken))))
+
+is-blank-requires : tie.Need-is-blank-requires
+is-blank-requires c κs = omega (arith, c .part .ensures .1, c .before .before .before .before .before .before .pre .0 .short)
 
 returns-2 : tie.Need-returns-2
 returns-2 c =
-    let d = c .before .before .before in
+    let d = c .before .before .before .before in
     let a = d .before .before .before .args in
-    is-asked (a .asked) (blankAreaKey (a .e) (now (a .area))) (c .blank-part .result) (asked d)
-    (c .blank-part .ensures ∙ sym (blank-master (a .e) (now (a .area)) (eq-eqb _ _ (c .before .before .if2 .taken))))
+    is-asked (a .asked) (blankAreaKey (a .e) (now (a .area))) (c .is-blank .result) (asked d)
+    (c .is-blank .ensures ∙ ap allBlank (c .before .part .ensures .0) ∙ sym (blank-master (a .e) (now (a .area)) (eq-eqb _ _ (c .before .before .before .if2 .taken))))
 
 blank-path-key-requires : tie.Need-blank-path-key-requires
 blank-path-key-requires c κs =
@@ -50,8 +54,9 @@ blank-area-key-spec =
     tie.close
     (tie.spec
     returns
-    cast-blank-part
-    blank-part-requires
+    cast-part
+    part-requires
+    is-blank-requires
     returns-2
     blank-path-key-requires
     returns-3)

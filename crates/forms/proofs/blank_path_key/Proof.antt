@@ -12,7 +12,7 @@ use Rattle.schema.specs.declared.Path.{Path}
 use Rattle.schema.specs.declared.Entry.{Entry}
 use Rattle.schema.specs.Decode.{pathOf}
 use Rattle.records.specs.Areas.{areaKeyPlace, areaKeyOn}
-use Rattle.areas.specs.AreaLaws.{area-key-first, area-key-turn, area-key-inside, variable-keys}
+use Rattle.records.specs.AreaLaws.{area-key-first, area-key-turn, area-key-inside, variable-keys}
 use Rattle.forms.specs.FormLaws.{notBlank, blank-found, blank-none}
 use borrow.Author.Needs.{needs}
 use Rattle.forms.proofs.blank_path_key.Statement.{statement}
@@ -37,11 +37,17 @@ fits c =
     let s = l .before .before .before in
     omega (arith, len-is c, area-key-inside (s .args .e) (l .loop .j) (s .args .e .count) (c .before .loop-test .taken), s .pre .1 .1, variable-keys (s .args .e) (s .pre .1 .0), l .loop .inv)
 
--- what was told of the part is true of the path's key
-told : (c : tie.After-blank-part Inv-loop μ-loop)
-    → allBlank (areaKeyOn (Entry-of (c .before .before)) (now (c .before .before .before .before .before .before .before .args .area)) (c .before .before .before .before .loop .j))
-    ≡ c .blank-part .result
-told c = let p = c .before .before in rw (len-is p, p .before .before .loop .inv .1) at (sym (c .blank-part .ensures))
+-- it is short enough
+short : (c : tie.After-path-of Inv-loop μ-loop) → c .path-of .result .len ≤ 16
+short c = rw (c .path-of .ensures) (c .before .before .before .before .before .pre .0 .shorts (c .before .before .loop .j) (c .before .loop-test .taken))
+
+-- what was told of the key is true of the path's key
+told : (c : tie.After-is-blank Inv-loop μ-loop)
+    → allBlank (areaKeyOn (Entry-of (c .before .before .before)) (now (c .before .before .before .before .before .before .before .before .args .area)) (c .before .before .before .before .before .loop .j))
+    ≡ c .is-blank .result
+told c =
+    let p = c .before .before .before in
+    rw (len-is p, p .before .before .loop .inv .1) at (sym (ap allBlank (c .before .part .ensures .0)) ∙ sym (c .is-blank .ensures))
 
 cast-count : tie.Need-cast-count Inv-loop μ-loop
 cast-count c = search needs
@@ -56,17 +62,20 @@ path-of-requires c κs = search needs
 cast-len : tie.Need-cast-len Inv-loop μ-loop
 cast-len c = search needs
 
-blank-part-requires : tie.Need-blank-part-requires Inv-loop μ-loop
-blank-part-requires c κs = fits (c .before)
+part-requires : tie.Need-part-requires Inv-loop μ-loop
+part-requires c κs = (short (c .before), fits (c .before))
+
+is-blank-requires : tie.Need-is-blank-requires Inv-loop μ-loop
+is-blank-requires c κs = omega (arith, short (c .before .before), c .part .ensures .1)
 
 returns : tie.Need-returns Inv-loop μ-loop
 returns c =
-    let p = c .before .before .before in
+    let p = c .before .before .before .before in
     let s = p .before .before .before .before .before in
     sym (blank-found (s .args .e) (now (s .args .area)) (s .pre .1 .0) (p .before .before .loop .j) (p .before .loop-test .taken) (told (c .before) ∙ c .if1 .taken))
 
 add-at : tie.Need-add-at Inv-loop μ-loop
-add-at c = omega (arith, fits (c .before .before .before))
+add-at c = omega (arith, fits (c .before .before .before .before))
 
 add-j : tie.Need-add-j Inv-loop μ-loop
 add-j c = search needs
@@ -76,7 +85,7 @@ loop-less c = search needs
 
 loop-again : tie.Need-loop-again Inv-loop μ-loop
 loop-again c =
-    let p = c .before .before .before in
+    let p = c .before .before .before .before in
     let l = p .before .before in
     let s = l .before .before .before in (
       search needs,
@@ -101,7 +110,8 @@ blank-path-key-spec =
     loop-holds
     path-of-requires
     cast-len
-    blank-part-requires
+    part-requires
+    is-blank-requires
     returns
     add-at
     add-j

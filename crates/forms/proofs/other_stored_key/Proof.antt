@@ -17,7 +17,7 @@ use Rattle.schema.specs.Decode.{pathOf}
 use Rattle.schema.specs.Place.{placeOf}
 use Rattle.records.specs.Areas.{areaKeyPlace, areaKeyOn}
 use Rattle.records.specs.RecordLaws.{part-is, whole-inside}
-use Rattle.areas.specs.AreaLaws.{area-key-first, area-key-turn, area-key-inside, variable-keys, keys-inside, path-inside}
+use Rattle.records.specs.AreaLaws.{area-key-first, area-key-turn, area-key-inside, variable-keys, keys-inside, path-inside}
 use Rattle.forms.specs.FormLaws.{sameStored, other-found, other-none}
 use borrow.Author.Needs.{needs}
 use Rattle.forms.proofs.other_stored_key.Statement.{statement}
@@ -74,11 +74,18 @@ stored c k h =
     let i = path-inside e (s .pre .1 .1 .0) (s .pre .1 .1 .1 .0) k h in
     rw (part c, run-run (now (s .args .base)) (placeOf e (s .args .r .0)) (e .body + e .room) (pathOf e k .at) (pathOf e k .len) (omega arith)) refl
 
--- what was told of the two parts is true of the path's keys
-told : (c : tie.After-same-parts Inv-loop μ-loop)
-    → sameIn (now (c .before .before .before .before .before .before .before .record-of .result)) (Start-of (c .before .before .before) .args .e) (now (Start-of (c .before .before .before) .args .area)) (c .before .before .before .before .before .loop .j)
-    ≡ c .same-parts .result
-told c = let p = c .before .before .before in rw (len-is p, at-is p, p .before .before .loop .inv .1) at (sym (c .same-parts .ensures))
+-- its key is short enough
+short : (c : tie.After-path-of Inv-loop μ-loop) → c .path-of .result .len ≤ 16
+short c = rw (c .path-of .ensures) (Start-of c .pre .1 .1 .0 .shorts (c .before .before .loop .j) (c .before .loop-test .taken))
+
+-- what was told of the key is true of the path's keys
+told : (c : tie.After-at Inv-loop μ-loop)
+    → sameIn (now (c .before .before .before .before .before .before .before .before .record-of .result)) (Start-of (c .before .before .before .before) .args .e) (now (Start-of (c .before .before .before .before) .args .area)) (c .before .before .before .before .before .before .loop .j)
+    ≡ c .at .result
+told c =
+    let k = c .before .before in
+    let p = k .before .before in
+    rw (k .part .ensures .0, k .part .ensures .1, len-is p, at-is p, p .before .before .loop .inv .1) at (sym (c .at .ensures))
 
 record-of-requires : tie.Need-record-of-requires Inv-loop μ-loop
 record-of-requires c κs = search needs
@@ -96,23 +103,29 @@ path-of-requires c κs = omega (arith, c .before .before .before .before .before
 cast-len : tie.Need-cast-len Inv-loop μ-loop
 cast-len c = search needs
 
-cast-same-parts : tie.Need-cast-same-parts Inv-loop μ-loop
-cast-same-parts c = search needs
+part-requires : tie.Need-part-requires Inv-loop μ-loop
+part-requires c κs = (short (c .before), area-fits (c .before))
 
-same-parts-requires : tie.Need-same-parts-requires Inv-loop μ-loop
-same-parts-requires c κs = let p = c .before .before in (area-fits p, part-fits p)
+cast-at : tie.Need-cast-at Inv-loop μ-loop
+cast-at c = search needs
+
+at-requires : tie.Need-at-requires Inv-loop μ-loop
+at-requires c κs =
+    let p = c .before .before .before in
+    let l = c .before .part .ensures .1 in
+    (omega (arith, l, short p), omega (arith, l, part-fits p))
 
 returns : tie.Need-returns Inv-loop μ-loop
 returns c =
-    let p = c .before .before .before .before in
+    let p = c .before .before .before .before .before in
     let l = p .before .before in
     let s = l .before .before .before .before .before in
     sym (other-found (now (s .args .base)) (s .args .e) (s .args .r .0) (now (s .args .area)) (l .loop .j) (p .before .loop-test .taken)
-    (sym (stored (l .before .before) (l .loop .j) (p .before .loop-test .taken)) ∙ told (c .before) ∙ not-true (c .before .same-parts .result) (c .if1 .taken)))
+    (sym (stored (l .before .before) (l .loop .j) (p .before .loop-test .taken)) ∙ told (c .before) ∙ not-true (c .before .at .result) (c .if1 .taken)))
 
 add-at : tie.Need-add-at Inv-loop μ-loop
 add-at c =
-    let p = c .before .before .before .before in
+    let p = c .before .before .before .before .before in
     let s = Start-of p in
     omega (arith, area-fits p, s .pre .1 .1 .1 .1, keys-inside (s .args .e) (s .pre .1 .1 .0), whole-inside (s .args .r .0) (s .pre .1 .0) (s .pre .0), s .pre .1 .0 .small)
 
@@ -124,13 +137,13 @@ loop-less c = search needs
 
 loop-again : tie.Need-loop-again Inv-loop μ-loop
 loop-again c =
-    let p = c .before .before .before .before in
+    let p = c .before .before .before .before .before in
     let l = p .before .before in
     let s = l .before .before .before .before .before in (
       search needs,
       omega (arith, area-key-turn (s .args .e) (l .loop .j), len-is p),
       allBelow-turn (sameIn (now (l .before .before .record-of .result)) (s .args .e) (now (s .args .area))) (l .loop .j) (l .loop .inv .2)
-          (told (c .before) ∙ not-false (c .before .same-parts .result) (c .if1 .left)),
+          (told (c .before) ∙ not-false (c .before .at .result) (c .if1 .left)),
     )
 
 returns-2 : tie.Need-returns-2 Inv-loop μ-loop
@@ -154,8 +167,9 @@ other-stored-key-spec =
     loop-holds
     path-of-requires
     cast-len
-    cast-same-parts
-    same-parts-requires
+    part-requires
+    cast-at
+    at-requires
     returns
     add-at
     add-j

@@ -12,7 +12,7 @@ use Rattle.names.proofs.is_named.Tie as tie
 returns : tie.Need-returns
 returns c =
     let s = c .before .before in
-    sym (other-length _ (s .args .t2 .letters) (now (s .args .name)) (s .pre .letters) (c .if1 .taken))
+    sym (other-length _ (s .args .p .letters) (now (s .args .name)) (s .pre .letters) (c .if1 .taken))
 
 entry-of-requires : tie.Need-entry-of-requires
 entry-of-requires c κs = search needs
@@ -23,34 +23,28 @@ word-requires c κs = search needs
 returns-2 : tie.Need-returns-2
 returns-2 c =
     let x = c .before .before in
-    let s = x .before .before .before .before in
+    let s = x .before .before .before in
     let l : x .entry-of .result .name < 4294967296 = search needs in
     sym (rw (x .entry-of .ensures) at
-    (other-master (x .entry-of .result .name) (s .args .t2 .letters) (now (s .args .name)) l (λ e. c .if2 .taken (e ∙ sym (c .before .word .ensures)))))
+    (other-master (x .entry-of .result .name) (s .args .p .letters) (now (s .args .name)) l (λ e. c .if2 .taken (e ∙ sym (c .before .word .ensures)))))
 
-element-copy-out-a : tie.Need-element-copy-out-a
-element-copy-out-a c = search needs
-
-element-copy-out-b : tie.Need-element-copy-out-b
-element-copy-out-b c = search needs
+reference-requires : tie.Need-reference-requires
+reference-requires c κs = search needs
 
 word-requires-2 : tie.Need-word-requires-2
 word-requires-2 c κs = search needs
 
-link-of-requires : tie.Need-link-of-requires
-link-of-requires c κs = search needs
-
 returns-3 : tie.Need-returns-3
 returns-3 c =
-    let d = c .before .before .before .before in
+    let d = c .before .before .before in
     let x = d .before .before in
-    let h = x .before .before .before in
+    let h = x .before .before in
     let a = h .before .args in
-    let l = c .link-of .ensures in
-    let e : x .entry-of .result .name ≡ entryOf (a .t) (a .t2 .master .0) .name = ap (λ (y : Entry). y .name) (x .entry-of .ensures) in
+    let l = c .before .before .reference .ensures in
+    let e : x .entry-of .result .name ≡ entryOf (a .t) (a .p .master .0) .name = ap (λ (y : Entry). y .name) (x .entry-of .ensures) in
     let m = sym e ∙ d .if2 .left ∙ d .before .word .ensures in
     rw (c .before .word2 .ensures, l .0)
-    (by-link _ (a .t2 .letters) (now (a .name)) (h .before .pre .letters) (x .before .before .if1 .left) (λ i. h .shared-slice-known .given i .fits) m (l .1) (l .2))
+    (by-link _ (a .p .letters) (now (a .name)) (h .before .pre .letters) (x .before .if1 .left) (λ i. h .shared-slice-known .given i .fits) m (l .1) (l .2))
 
 pub is-named-spec : {M : Type 1} → statement M
 is-named-spec =
@@ -60,8 +54,6 @@ is-named-spec =
     entry-of-requires
     word-requires
     returns-2
-    element-copy-out-a
-    element-copy-out-b
+    reference-requires
     word-requires-2
-    link-of-requires
     returns-3)

@@ -13,7 +13,7 @@ use Rattle.octets.specs.BelowLaws.{lowestFrom-turn, lowestFrom-hit, lowestFrom-
 use Rattle.schema.specs.declared.Entry.{Entry}
 use Rattle.schema.specs.declared.Schema.{Schema}
 use Rattle.schema.specs.Decode.{pathOf}
-use Rattle.calls.specs.Scene.{pathName, pathNamed}
+use Rattle.schema.specs.Naming.{pathName, pathNamed}
 use Rattle.names.proofs.path_named.Statement.{statement}
 use Rattle.names.proofs.path_named.Tie as tie
 

@@ -5,7 +5,7 @@ use denote.Ref.{now}
 use Rattle.octets.specs.Below.{allBelow}
 use Rattle.octets.specs.BelowLaws.{joined, joined-all}
 use Rattle.schema.specs.Rules.{lettersRule}
-use Rattle.rules.specs.RulesLaws.{apart}
+use Rattle.rules.specs.Parts.{apart}
 use borrow.Author.Needs.{needs}
 use Rattle.rules.proofs.letters.Tie as tie
 use Rattle.rules.proofs.letters.Statement.{statement}

@@ -5,7 +5,8 @@ use mathlib.Core.Bool.{not}
 use denote.Ref.{now}
 use Rattle.octets.specs.Below.{allBelow}
 use Rattle.octets.specs.BelowLaws.{joined, joined-all}
-use Rattle.rules.specs.RulesLaws.{apart, unused-apart}
+use Rattle.rules.specs.RulesLaws.{unused-apart}
+use Rattle.rules.specs.Parts.{apart}
 use borrow.Author.Needs.{needs}
 use Rattle.rules.proofs.new_letters.Tie as tie
 use Rattle.rules.proofs.new_letters.Statement.{statement}

@@ -5,7 +5,7 @@ use mathlib.Core.Path.{_≡_, ap}
 use denote.Ref.{now}
 use Rattle.octets.specs.Below.{allBelow}
 use Rattle.octets.specs.BelowLaws.{joined, joined-all}
-use Rattle.rules.specs.RulesLaws.{older}
+use Rattle.rules.specs.Parts.{older}
 use borrow.Author.Needs.{needs}
 use Rattle.rules.proofs.new_name.Tie as tie
 use Rattle.rules.proofs.new_name.Statement.{statement}

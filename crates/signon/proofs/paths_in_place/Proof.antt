@@ -7,7 +7,9 @@ use denote.Ref.{now}
 use Rattle.octets.specs.Below.{allBelow}
 use Rattle.sound.specs.Linear.{pathsInPlace}
 use Rattle.clean.specs.CleanLaws.{passes, fails, ends}
-use Rattle.signon.specs.SignOnLaws.{pathPlaced, path-read}
+use Rattle.signon.specs.SignOnLaws.{path-read}
+use Rattle.signon.specs.Judged.{pathPlaced}
+use Rattle.records.specs.InBaseLaws.{reached-on}
 use borrow.Author.Needs.{needs}
 use Rattle.signon.proofs.paths_in_place.Statement.{statement}
 use Rattle.signon.proofs.paths_in_place.Tie as tie
@@ -26,20 +28,20 @@ unfolding allBelow
 loop-holds c = search needs
 
 path-of-requires : tie.Need-path-of-requires Inv-loop μ-loop
-path-of-requires c κs = omega (arith, c .loop-test .taken, c .before .before .before .before .pre .few)
+path-of-requires c κs = omega (arith, c .loop-test .taken, c .before .before .before .before .pre .points .few)
 
 entry-of-requires : tie.Need-entry-of-requires Inv-loop μ-loop
 entry-of-requires c κs =
     let l = c .before .before in
     let s = l .before .before .before in
-    rw (c .path-of .ensures) (s .pre .led (l .loop .j) (c .before .loop-test .taken))
+    rw (c .path-of .ensures) (omega (arith, s .pre .number (l .loop .j) (c .before .loop-test .taken)))
 
 path-in-place-requires : tie.Need-path-in-place-requires Inv-loop μ-loop
 path-in-place-requires c κs =
     let p = c .before in
     let l = p .before .before in
     let s = l .before .before .before in
-    rw (c .entry-of .ensures, p .path-of .ensures) (s .pre .path (l .loop .j) (p .before .loop-test .taken))
+    rw (c .entry-of .ensures, p .path-of .ensures) (reached-on (s .pre) (l .loop .j) (p .before .loop-test .taken))
 
 returns : tie.Need-returns Inv-loop μ-loop
 unfolding pathsInPlace

@@ -1,12 +1,14 @@
 -- `signon::set_in_place` meets its contract: the bytes, then what the set's kind asks for.
 use denote.Ref.{now}
 use Rattle.signon.specs.SignOnLaws.{set-dirty, set-masters, set-paths}
-use borrow.Author.Needs.{needs}
+use Rattle.records.specs.InBaseLaws.{set-in, masters-by-kind, points-by-kind}
 use Rattle.signon.proofs.set_in_place.Statement.{statement}
 use Rattle.signon.proofs.set_in_place.Tie as tie
 
 set-clean-requires : tie.Need-set-clean-requires
-set-clean-requires c κs = search needs
+set-clean-requires c κs =
+    let s = set-in (c .before .pre) in
+    (s .lies, s .head)
 
 returns : tie.Need-returns
 returns c =
@@ -16,7 +18,7 @@ returns c =
 masters-in-place-requires : tie.Need-masters-in-place-requires
 masters-in-place-requires c κs =
     let s = c .before .before .before .before .before in
-    (s .pre .lies, s .pre .master (c .if2 .taken))
+    (set-in (s .pre) .lies, masters-by-kind (s .pre) (c .if2 .taken))
 
 returns-2 : tie.Need-returns-2
 returns-2 c =
@@ -25,7 +27,7 @@ returns-2 c =
     set-masters (a .t) (now (a .base)) (a .e) (k .before .set-clean .ensures) (k .if1 .left) (c .before .if2 .taken) (c .masters-in-place .ensures)
 
 paths-in-place-requires : tie.Need-paths-in-place-requires
-paths-in-place-requires c κs = c .before .before .before .before .before .pre .variable (c .if2 .left)
+paths-in-place-requires c κs = points-by-kind (c .before .before .before .before .before .pre) (c .if2 .left)
 
 returns-3 : tie.Need-returns-3
 returns-3 c =

@@ -1,14 +1,14 @@
 -- `signon::sets_in_place` meets its contract. The invariant: the sets passed are in place.
 use Prim.Native.Nat.{_-_, _≤_}
-use mathlib.Core.Path.{_≡_}
+use mathlib.Core.Path.{_≡_, refl}
 use mathlib.Core.Bool.{true}
 use native.Mathlib.Omega.{arith}
 use denote.Ref.{now}
 use Rattle.octets.specs.Below.{allBelow}
 use Rattle.schema.specs.Decode.{setCount}
 use Rattle.clean.specs.CleanLaws.{passes, fails, ends}
-use Rattle.signon.specs.Facts.{set-in}
-use Rattle.signon.specs.SignOnLaws.{setPlaced, set-read}
+use Rattle.signon.specs.SignOnLaws.{set-read}
+use Rattle.signon.specs.Judged.{setPlaced}
 use borrow.Author.Needs.{needs}
 use Rattle.signon.proofs.sets_in_place.Statement.{statement}
 use Rattle.signon.proofs.sets_in_place.Tie as tie
@@ -20,7 +20,7 @@ abbrev μ-loop : tie.MeasureT-loop
 μ-loop base t n i₀ i = n - i
 
 add-n : tie.Need-add-n Inv-loop μ-loop
-add-n c = omega (arith, c .before .before .pre .0 .few-masters, c .before .before .pre .0 .few-variables)
+add-n c = omega (arith, c .before .before .pre .ok .few-masters, c .before .before .pre .ok .few-variables)
 
 loop-holds : tie.Need-loop-holds Inv-loop μ-loop
 unfolding allBelow
@@ -29,13 +29,13 @@ loop-holds c = search needs
 entry-of-requires : tie.Need-entry-of-requires Inv-loop μ-loop
 entry-of-requires c κs =
     let s = c .before .before .before .before in
-    omega (arith, c .loop-test .taken, s .pre .0 .few-masters, s .pre .0 .few-variables)
+    omega (arith, c .loop-test .taken, s .pre .ok .few-masters, s .pre .ok .few-variables)
 
 set-in-place-requires : tie.Need-set-in-place-requires Inv-loop μ-loop
 set-in-place-requires c κs =
     let l = c .before .before in
     let s = l .before .before .before in
-    rw (c .entry-of .ensures) (set-in (s .pre .0) (s .pre .1) (l .loop .i) (c .before .loop-test .taken))
+    rw (c .entry-of .ensures) (record { laid = s .pre; number = l .loop .i; among = c .before .loop-test .taken; here = refl })
 
 returns : tie.Need-returns Inv-loop μ-loop
 returns c =
@@ -49,7 +49,7 @@ add-i : tie.Need-add-i Inv-loop μ-loop
 add-i c =
     let l = c .before .before .before .before in
     let s = l .before .before .before in
-    omega (arith, c .before .before .before .loop-test .taken, s .pre .0 .few-masters, s .pre .0 .few-variables)
+    omega (arith, c .before .before .before .loop-test .taken, s .pre .ok .few-masters, s .pre .ok .few-variables)
 
 loop-less : tie.Need-loop-less Inv-loop μ-loop
 loop-less c = search needs

@@ -5,7 +5,7 @@ use Rattle.schema.specs.Decode.{setCount}
 use Rattle.sound.specs.Sound.{checksTrue}
 use Rattle.sound.specs.Linear.{inPlace}
 use Rattle.clean.specs.CleanLaws.{stops, goes-on}
-use Rattle.signon.specs.SignOnLaws.{setPlaced}
+use Rattle.signon.specs.Judged.{setPlaced}
 use borrow.Author.Needs.{needs}
 use Rattle.signon.proofs.sign_on.Statement.{statement}
 use Rattle.signon.proofs.sign_on.Tie as tie

@@ -1,5 +1,5 @@
 use borrow.Author.Tests.{not-true, not-false}
-use Rattle.store.specs.CallLaws.{broken-schema, decided, laid-out}
+use Rattle.store.specs.CallLaws.{broken-schema, call-decided, laid-out}
 use mathlib.Core.Path.{ap}
 use borrow.Author.Needs.{needs}
 use Rattle.store.proofs.call.Statement.{statement}
@@ -33,7 +33,7 @@ returns-2 : tie.Need-returns-2
 returns-2 c =
     let u = c .before .before .before .before in
     let e = u .before .before .before .before .before .before in
-    decided _ _ _ _ _ _ _ _ (e .before .before .decode .ensures) (not-false _ (e .if1 .left)) (u .before .before .before .before .before .of .ensures) (u .under .ensures)
+    call-decided _ _ _ _ _ _ _ _ (e .before .before .decode .ensures) (not-false _ (e .if1 .left)) (u .before .before .before .before .before .of .ensures) (u .under .ensures)
 
 pub call-spec : {M : Type 1} → statement M
 call-spec =

@@ -1,13 +1,10 @@
-use native.Mathlib.Omega.{arith}
 use Rattle.sound.specs.LinearLaws.{inPlace-sound}
 use borrow.Author.Needs.{needs}
 use Rattle.store.proofs.sign_on.Statement.{statement}
 use Rattle.store.proofs.sign_on.Tie as tie
 
 sign-on-requires : tie.Need-sign-on-requires
-sign-on-requires c κs =
-    let laid = c .before .pre in
-    (laid .ok, omega (arith, laid .size))
+sign-on-requires c κs = c .before .pre
 
 ended-requires : tie.Need-ended-requires
 ended-requires c κs = search needs

@@ -1,26 +1,25 @@
-use mathlib.Core.Path.{ap}
+-- `store::under` meets its contract: a data base of another length is refused.
+use mathlib.Core.Path.{sym, ap, _∙_}
 use native.Mathlib.Omega.{arith}
 use Rattle.store.specs.DecideLaws.{decides-size}
 use borrow.Author.Needs.{needs}
 use Rattle.store.proofs.under.Statement.{statement}
 use Rattle.store.proofs.under.Tie as tie
 
-cast-if1 : tie.Need-cast-if1
-cast-if1 c = search needs
-
-mul-if1 : tie.Need-mul-if1
-mul-if1 c = search needs
+length-of-requires : tie.Need-length-of-requires
+length-of-requires c κs = search needs
 
 ended-requires : tie.Need-ended-requires
 ended-requires c κs = search needs
 
 returns : tie.Need-returns
-returns c = decides-size _ _ _ _ _ _ _ _ (c .before .if1 .taken) (c .ended .ensures .0) (ap (λ r. r .0) (c .ended .ensures .1))
+returns c = decides-size _ _ _ _ _ _ _ _ (λ h. c .before .if1 .taken (h ∙ sym (c .before .before .length-of .ensures))) (c .ended .ensures .0) (ap (λ r. r .0) (c .ended .ensures .1))
 
 perform-requires : tie.Need-perform-requires
 perform-requires c κs =
-    let p = c .before .before .before .before .before .before .before .before .pre in
-    (record { ok = p .0 .ok; fields = p .0 .fields; size = omega (arith, c .before .before .if1 .left) }, p .1)
+    let f = c .before .before in
+    let p = f .before .before .before .before .before .before .before .pre in
+    (record { ok = p .0 .ok; fields = p .0 .fields; size = omega (arith, f .if1 .left, f .before .length-of .ensures) }, p .1)
 
 same-length : tie.Need-same-length
 same-length c = search needs
@@ -35,8 +34,7 @@ pub under-spec : {M : Type 1} → statement M
 under-spec =
     tie.close
     (tie.spec
-    cast-if1
-    mul-if1
+    length-of-requires
     ended-requires
     returns
     perform-requires

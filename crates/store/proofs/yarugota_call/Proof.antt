@@ -1,4 +1,4 @@
-use Rattle.store.specs.CallLaws.{as-word}
+use Rattle.calls.specs.WordLaws.{as-word}
 use borrow.Author.Needs.{needs}
 use Rattle.store.proofs.yarugota_call.Statement.{statement}
 use Rattle.store.proofs.yarugota_call.Tie as tie
@@ -19,7 +19,7 @@ same-length-2 : tie.Need-same-length-2
 same-length-2 c = search needs
 
 returns : tie.Need-returns
-returns c = as-word _ (c .before .before .before .before .before .before .call .ensures) (c .before .number .ensures) (c .one-word .ensures)
+returns c = as-word _ (c .before .before .before .before .before .before .call .ensures) (c .before .number .ensures) (c .one-word .ensures .0) (c .one-word .ensures .1)
 
 pub yarugota-call-spec : {M : Type 1} → statement M
 yarugota-call-spec =

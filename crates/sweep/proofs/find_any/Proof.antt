@@ -1,69 +1,61 @@
-use mathlib.Core.Path.{_≡_, refl, ap, _∙_}
+-- `sweep::find_any` meets its contract: no set of the name, or one, and the forms of the parameters.
+use mathlib.Core.Path.{_≡_, refl}
+use mathlib.Core.Bool.{true, false}
 use native.Mathlib.Omega.{arith}
+use lib.Dec.{ltb}
+use borrow.Author.Tests.{lt-ltb, le-ltb}
+use Rattle.octets.specs.TestLaws.{never-both}
+use Rattle.schema.specs.Decode.{setCount}
+use Rattle.records.specs.Fields.{Fields}
 use borrow.Author.Needs.{needs}
-use mathlib.Core.Bool.{false}
-use Rattle.octets.specs.BelowLaws.{never-both}
-use Rattle.schema.specs.Decode.{entryOf}
-use Rattle.sweep.specs.SweptLaws.{none-named, one-named}
 use Rattle.sweep.proofs.find_any.Statement.{statement}
 use Rattle.sweep.proofs.find_any.Tie as tie
+
+-- the set is one of the schema's
+fields : (d : tie.After-entry-of2) → Fields (d .entry-of2 .result)
+fields d =
+    rw (d .entry-of2 .ensures) (d .before .before .before .before .before .before .before .before .pre .0 .fields _ (omega (arith, d .before .if1 .left, d .before .before .before .sets .ensures)))
 
 set-named-requires : tie.Need-set-named-requires
 set-named-requires c κs = search needs
 
-entry-number-requires : tie.Need-entry-number-requires
-entry-number-requires c κs = search needs
-
 sets-requires : tie.Need-sets-requires
 sets-requires c κs = search needs
 
-element-copy-out-t17 : tie.Need-element-copy-out-t17
-element-copy-out-t17 c = search needs
+entry-of-requires : tie.Need-entry-of-requires
+entry-of-requires c κs = search needs
 
 returns : tie.Need-returns
 returns c =
     let b = c .before .before .before .before in
-    none-named _ _ _ _ _ _ _ _ (b .set-named .ensures) (c .before .before .sets .ensures) (c .before .if1 .taken) refl
+    rw (c .entry-of .ensures, ← b .set-named .ensures, le-ltb _ _ (rw (c .before .before .before .sets .ensures) at (c .before .if1 .taken))) refl
 
--- the number of the set that was found
-numbered : (c : tie.Else1) → c .before .before .entry-number .result .0 ≡ c .before .before .before .set-named .result
-numbered c =
-    let ok = c .before .before .before .before .before .before .before .pre .0 .ok in
-    let n = c .before .before .entry-number .ensures in
-    let e = c .before .sets .ensures in
-    omega (arith, c .if1 .left, ok .few-masters, ok .few-variables)
+-- the number is one of the schema's sets
+within : (d : tie.After-entry-of2) → (let b = d .before .before .before .before in ltb (b .set-named .result .0) (setCount (b .before .before .before .before .args .t)) ≡ true)
+within d =
+    let b = d .before .before .before .before in
+    lt-ltb (b .set-named .result .0) (setCount (b .before .before .before .before .args .t)) (omega (arith, d .before .if1 .left, d .before .before .before .sets .ensures))
 
--- the set
-entered : (c : tie.After-entry-of) → c .entry-of .result ≡ entryOf (c .before .before .before .before .before .before .before .before .args .t1) (c .before .before .before .before .set-named .result)
-entered c = c .entry-of .ensures ∙ ap (entryOf (c .before .before .before .before .before .before .before .before .args .t1)) (numbered (c .before))
-
-entry-of-requires : tie.Need-entry-of-requires
-entry-of-requires c κs =
-    let ok = c .before .before .before .before .before .before .before .pre .0 .ok in
-    omega (arith, numbered c, c .if1 .left, c .before .sets .ensures, ok .few-masters, ok .few-variables)
+entry-of-requires-2 : tie.Need-entry-of-requires-2
+entry-of-requires-2 c κs = search needs
 
 form-status-requires : tie.Need-form-status-requires
-form-status-requires c κs =
-    let k = c .before in (
-      (rw (entered c) (k .before .before .before .before .before .before .before .pre .0 .fields _ (omega (arith, k .if1 .left, k .before .sets .ensures)))),
-      λ v s. absurd (never-both false s refl),
-    )
+form-status-requires c κs = (fields c, (λ v s. absurd (never-both false s refl), fields c .short))
 
 returns-2 : tie.Need-returns-2
 returns-2 c =
-    let k = c .before .before in
-    let b = k .before .before .before in
-    one-named _ _ _ _ _ _ _ _ (b .set-named .ensures) (k .before .sets .ensures) (b .before .before .before .before .pre .0) (omega (arith, k .if1 .left)) (rw (← entered (c .before)) (c .form-status .ensures)) (entered (c .before))
+    let d = c .before in
+    let b = d .before .before .before .before in
+    rw (← b .set-named .ensures, within d, ← d .entry-of2 .ensures, ← c .form-status .ensures) refl
 
 pub find-any-spec : {M : Type 1} → statement M
 find-any-spec =
     tie.close
     (tie.spec
     set-named-requires
-    entry-number-requires
     sets-requires
-    element-copy-out-t17
-    returns
     entry-of-requires
+    returns
+    entry-of-requires-2
     form-status-requires
     returns-2)

@@ -1,12 +1,17 @@
 use mathlib.Core.Path.{ap, _∙_}
+use native.Mathlib.Omega.{arith}
 use borrow.Author.Needs.{needs}
+use Rattle.records.specs.InBaseLaws.{set-in}
 use Rattle.calls.specs.Reply.{orNone}
 use Rattle.sweep.specs.SweptLaws.{none-within, sweep-ends}
 use Rattle.sweep.proofs.rdnxt.Statement.{statement}
 use Rattle.sweep.proofs.rdnxt.Tie as tie
 
 next-live-requires : tie.Need-next-live-requires
-next-live-requires c κs = search needs
+next-live-requires c κs =
+    let p = c .before .before .pre in
+    let i = set-in (p .0 .set) in
+    (i .lies, (omega (arith, i .head), p .1 .0))
 
 or-none-requires : tie.Need-or-none-requires
 or-none-requires c κs = search needs
@@ -15,7 +20,8 @@ give-requires : tie.Need-give-requires
 give-requires c κs =
     let s = c .before .before .before .before .before in
     let p = s .pre in
-    (p .0 .lies, (p .0 .fields, (rw (c .before .or-none .ensures) (none-within (s .args .e) _), p .1 .1)))
+    let i = set-in (p .0 .set) in
+    (i .lies, (i .fields, (rw (c .before .or-none .ensures) (none-within (s .args .e) _), p .1 .1)))
 
 same-length : tie.Need-same-length
 same-length c = search needs

@@ -1,3 +1,7 @@
+use Prim.Native.Nat.{ℕ}
+use mathlib.Core.Path.{ap}
+use mathlib.Core.Bool.{not}
+use lib.Dec.{eqb}
 use borrow.Author.Needs.{needs}
 use Rattle.yarugota.proofs.read_once.Statement.{statement}
 use Rattle.yarugota.proofs.read_once.Tie as tie
@@ -33,7 +37,9 @@ same-length-2 : tie.Need-same-length-2
 same-length-2 c = search needs
 
 returns : tie.Need-returns
-returns c = search needs
+returns c =
+    let t = c .before .before .before .before in
+    (t .take-bytes .ensures .0, (_, ap (λ (n : ℕ). not (eqb n 0)) (c .before .before .before .before .before .before .before .before .count .ensures .0 .1), t .take-bytes .ensures .1))
 
 pub read-once-spec : {M : Type 1} → statement M
 read-once-spec =

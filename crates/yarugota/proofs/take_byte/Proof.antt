@@ -1,8 +1,10 @@
--- `yarugota::take_byte` meets its contract.
+-- `yarugota::take_byte` meets its contract: a line is answered by what is kept of it.
 use mathlib.Core.Path.{sym}
 use native.Mathlib.Omega.{arith}
 use lib.Seq.{length-take-le}
+use denote.Ref.{now}
 use borrow.Author.Needs.{needs}
+use Rattle.console.specs.SessionLaws.{line-taken, byte-kept}
 use Rattle.yarugota.proofs.take_byte.Statement.{statement}
 use Rattle.yarugota.proofs.take_byte.Tie as tie
 
@@ -25,7 +27,10 @@ same-length-2 : tie.Need-same-length-2
 same-length-2 c = search needs
 
 returns : tie.Need-returns
-returns c = search needs
+returns c =
+    let e = c .before .before .before in
+    let t = e .before .before .before in
+    (omega arith, λ s h. line-taken (now (t .before .before .before .before .args .schema)) h (t .if1 .taken) (c .wrapping-add-u64 .ensures) (e .end-line .ensures))
 
 keep-requires : tie.Need-keep-requires
 keep-requires c κs = search needs
@@ -34,7 +39,10 @@ same-length-3 : tie.Need-same-length-3
 same-length-3 c = search needs
 
 returns-2 : tie.Need-returns-2
-returns-2 c = search needs
+returns-2 c =
+    let k = c .before .before in
+    let t = k .before .before in
+    (k .keep .ensures .0 .fits, λ s h. byte-kept (now (t .before .before .before .before .args .schema)) h (t .if1 .left) (k .keep .ensures .0))
 
 pub take-byte-spec : {M : Type 1} → statement M
 take-byte-spec =

@@ -4,15 +4,15 @@
 //! differential [--seed S] [--calls N]    seeds S, S + 1, .. of every suite with seeds, one at least, until N calls are made
 //! differential --suite NAME [--seed S]   one suite with one seed
 //! differential --case FILE               one case that was written down, in the form of the vectors
-//! differential --mistakes                which suite notices which mistake of the stand-in
+//! differential --mistakes                which suite notices which mistake that the model can be told to make
 //! ```
 
 use std::process::ExitCode;
 use std::time::Instant;
 
 use yarugota_differential::suites::{Suite, ALL};
-use yarugota_differential::{Beside, Direct};
-use yarugota_driver::{faults, Store};
+use yarugota_differential::{Beside, Direct, Store};
+use yarugota_model::Fault;
 use yarugota_support::vectors::replay;
 
 /// What was asked for.
@@ -132,12 +132,10 @@ fn one_case(file: &str) -> Result<(), String> {
 
 /// Every suite by itself on every mistake, with the gate's seeds.
 fn mistakes() {
-    for fault in faults() {
-        let store = Store::StandIn {
-            fault: fault.number,
-        };
+    for &fault in Fault::ALL {
+        let store = Store::Model(Some(fault));
         let notices = |suite: &&Suite| suite.on(store, 0..suite.seeds).is_err();
         let by: Vec<&str> = ALL.iter().filter(notices).map(|suite| suite.name).collect();
-        println!("{:2} {}: {}", fault.number, fault.what, by.join(", "));
+        println!("{fault:?}, {}: {}", fault.what(), by.join(", "));
     }
 }

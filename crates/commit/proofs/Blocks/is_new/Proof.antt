@@ -4,7 +4,7 @@ use Prim.Native.Nat.{_-_, _≤_}
 use mathlib.Core.Path.{_≡_, ap, sym, _∙_}
 use mathlib.Core.Bool.{false, not}
 use native.Mathlib.Omega.{arith}
-use lib.ListN.{length, drop}
+use lib.ListN.{length, drop, length-map}
 use borrow.Author.Needs.{needs}
 use borrow.Author.Tests.{eq-eqb, ne-eqb}
 use Rattle.commit.specs.Touched.{isOther, isNew, numbersOf}
@@ -19,20 +19,20 @@ abbrev μ-loop : tie.MeasureT-loop
 μ-loop n self count i₀ i = count - i
 
 whole : (s : tie.Start Inv-loop μ-loop) → length (s .args .t1 .numbers) ≡ 12
-whole c = search needs
+whole s = sym (length-map (s .args .t1 .numbers) _) ∙ s .good .0 .1 .1 .0 .1 .0 .1
 
 loop-holds : tie.Need-loop-holds Inv-loop μ-loop
 loop-holds c = search needs
 
-mul-if1 : tie.Need-mul-if1 Inv-loop μ-loop
-mul-if1 c = search needs
+mul-k : tie.Need-mul-k Inv-loop μ-loop
+mul-k c = search needs
 
-element-copy-out-if1 : tie.Need-element-copy-out-if1 Inv-loop μ-loop
-element-copy-out-if1 c = search needs
+element-copy-out-k : tie.Need-element-copy-out-k Inv-loop μ-loop
+element-copy-out-k c = search needs
 
 returns : tie.Need-returns Inv-loop μ-loop
 returns c =
-    let l = c .before .before .before .before in
+    let l = c .before .before .before .before .before in
     let a = l .before .args in
     let f : isNew (a .n .0) (drop (l .loop .i) (numbersOf (a .t1))) ≡ false = blocks-fail (a .t1) (whole (l .before)) (l .before .pre) (isOther (a .n .0)) (l .loop .i) (omega arith) (ap not (eq-eqb _ _ (c .if1 .taken))) in
     sym f ∙ l .loop .inv .1
@@ -45,7 +45,7 @@ loop-less c = search needs
 
 loop-again : tie.Need-loop-again Inv-loop μ-loop
 loop-again c =
-    let l = c .before .before .before .before in
+    let l = c .before .before .before .before .before in
     let a = l .before .args in
     (omega arith, sym (blocks-turn (a .t1) (whole (l .before)) (l .before .pre) (isOther (a .n .0)) (l .loop .i) (omega arith) (ap not (ne-eqb _ _ (c .if1 .left)))) ∙ l .loop .inv .1)
 
@@ -62,8 +62,8 @@ is-new-spec =
     Inv-loop
     μ-loop
     loop-holds
-    mul-if1
-    element-copy-out-if1
+    mul-k
+    element-copy-out-k
     returns
     add-i
     loop-less

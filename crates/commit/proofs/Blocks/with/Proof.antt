@@ -1,23 +1,23 @@
 -- `commit::Blocks::with` meets its contract: a new number stands behind the others. Assumes nothing.
 use mathlib.Core.Path.{_≡_, sym, _∙_}
 use native.Mathlib.Omega.{arith}
-use lib.ListN.{length}
+use lib.ListN.{length, length-map}
 use borrow.Author.Needs.{needs}
 use Rattle.commit.specs.TouchedLaws.{block-added, block-known}
 use Rattle.commit.proofs.Blocks.with.Statement.{statement}
 use Rattle.commit.proofs.Blocks.with.Tie as tie
 
 whole : (s : tie.Start) → length (s .args .self .numbers) ≡ 12
-whole s = search needs
+whole s = sym (length-map (s .args .self .numbers) _) ∙ s .good .0 .1 .1 .0 .1 .0 .1
 
 is-new-requires : tie.Need-is-new-requires
 is-new-requires c κs = search needs
 
-mul-s : tie.Need-mul-s
-mul-s c = search needs
+mul-n : tie.Need-mul-n
+mul-n c = search needs
 
-element-write-s : tie.Need-element-write-s
-element-write-s c = search needs
+element-set-from-n : tie.Need-element-set-from-n
+element-set-from-n c = search needs
 
 add-s : tie.Need-add-s
 add-s c = search needs
@@ -26,7 +26,7 @@ returns : tie.Need-returns
 returns c =
     let k = c .before in
     let s = k .before in
-    (block-added (s .args .self) (s .args .n .0) (whole s) (s .pre) (sym (k .is-new .ensures) ∙ c .if1 .taken), omega arith)
+    (block-added (s .args .self) (s .args .n) (whole s) (s .pre) (sym (k .is-new .ensures) ∙ c .if1 .taken), omega arith)
 
 returns-2 : tie.Need-returns-2
 returns-2 c =
@@ -35,4 +35,4 @@ returns-2 c =
     (block-known (s .args .self) (s .args .n .0) (sym (k .is-new .ensures) ∙ c .if1 .left), omega arith)
 
 pub with-spec : {M : Type 1} → statement M
-with-spec = tie.close (tie.spec is-new-requires mul-s element-write-s add-s returns returns-2)
+with-spec = tie.close (tie.spec is-new-requires mul-n element-set-from-n add-s returns returns-2)

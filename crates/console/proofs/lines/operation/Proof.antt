@@ -2,7 +2,7 @@
 use mathlib.Core.Path.{_∙_}
 use lib.ListN.{replicate}
 use denote.Ref.{now}
-use Rattle.console.specs.LineLaws.{splice-whole}
+use Rattle.octets.specs.SpliceLaws.{splice-whole}
 use borrow.Author.Needs.{needs}
 use Rattle.console.proofs.lines.operation.Statement.{statement}
 use Rattle.console.proofs.lines.operation.Tie as tie

@@ -3,7 +3,8 @@ use mathlib.Core.Path.{_≡_, sym, _∙_, refl}
 use native.Mathlib.Omega.{arith}
 use lib.ListN.{length, replicate}
 use denote.Ref.{now}
-use Rattle.console.specs.LineLaws.{splice-whole, name-length}
+use Rattle.console.specs.LineLaws.{name-length}
+use Rattle.octets.specs.SpliceLaws.{splice-whole}
 use borrow.Author.Needs.{needs}
 use Rattle.console.proofs.lines.path_name.Statement.{statement}
 use Rattle.console.proofs.lines.path_name.Tie as tie

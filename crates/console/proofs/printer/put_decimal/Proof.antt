@@ -33,7 +33,7 @@ returns c =
     let from = s .spell .result in
     let w : take (20 - from) (drop from d) ≡ drop from d = rest-whole d 20 from (s .spell .kept .0) in
     let p = rw w at (c .put .ensures) in
-    (omega (arith, p .0, length-drop from d, s .spell .kept .0), rw (s .spell .ensures .0) at (p .1))
+    (omega (arith, p .0, length-drop from d, s .spell .kept .0), rw (s .spell .ensures .0) at (p .1), p .2, omega (arith, p .0))
 
 pub put-decimal-spec : {M : Type 1} → statement M
 put-decimal-spec =

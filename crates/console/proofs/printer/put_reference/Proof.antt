@@ -28,7 +28,7 @@ returns c =
     let t = w .before .before in
     let e : w .put-word .last .0 ≡ wordBytes (t .before .before .args .v) = w .put-word .ensures ∙ word-whole (t .before .before .args .v) in
     let p = rw e at (c .put .ensures) in
-    (omega (arith, p .0), rw (sym (t .before .is-spelt .ensures) ∙ t .if1 .taken) (p .1))
+    (omega (arith, p .0), rw (sym (t .before .is-spelt .ensures) ∙ t .if1 .taken) (p .1), p .2, omega (arith, p .0))
 
 put-decimal-requires : tie.Need-put-decimal-requires
 put-decimal-requires c κs = search needs

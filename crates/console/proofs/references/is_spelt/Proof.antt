@@ -11,6 +11,9 @@ low-requires c κs = search needs
 low-requires-2 : tie.Need-low-requires-2
 low-requires-2 c κs = search needs
 
+end-requires : tie.Need-end-requires
+end-requires c κs = search needs
+
 link-requires : tie.Need-link-requires
 link-requires c κs = search needs
 
@@ -23,9 +26,10 @@ capital-or-digit-requires-2 c κs = search needs
 returns : tie.Need-returns
 unfolding isSpelt
 returns c =
-    let d = c .before in
-    let b = d .before .before .before in
-    rw (d .capital-or-digit2 .ensures, d .before .capital-or-digit .ensures, d .before .before .link .ensures, b .low2 .ensures, b .before .low .ensures) refl
+    let d = c .before .before in
+    let l = d .before .before in
+    let b = l .before .before in
+    rw (d .capital-or-digit2 .ensures, d .before .capital-or-digit .ensures, l .link .ensures .0, l .before .end .ensures, b .low2 .ensures, b .before .low .ensures) refl
 
 pub is-spelt-spec : {M : Type 1} → statement M
 is-spelt-spec =
@@ -33,6 +37,7 @@ is-spelt-spec =
     (tie.spec
     low-requires
     low-requires-2
+    end-requires
     link-requires
     capital-or-digit-requires
     capital-or-digit-requires-2

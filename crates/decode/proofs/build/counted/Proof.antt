@@ -3,7 +3,8 @@ use Prim.Native.Nat.{_*_, _-_, _≤_}
 use mathlib.Core.Path.{_≡_}
 use native.Mathlib.Omega.{arith}
 use denote.Ref.{now}
-use Rattle.decode.specs.DecodeLaws.{Counted, counted-none}
+use Rattle.decode.specs.DecodeLaws.{counted-none}
+use Rattle.decode.specs.Decoding.{Counted}
 use borrow.Author.Needs.{needs}
 use Rattle.decode.proofs.build.counted.Tie as tie
 use Rattle.decode.proofs.build.counted.Statement.{statement}

@@ -3,14 +3,14 @@ use Prim.Native.Nat.{_-_, _≤_}
 use mathlib.Core.Path.{_≡_}
 use native.Mathlib.Omega.{arith}
 use denote.Ref.{now}
-use Rattle.decode.specs.DecodeLaws.{Laid, laid-none, laid-next, laid-all, blocks-ready, too-long, too-many}
+use Rattle.decode.specs.DecodeLaws.{LaidOut, laid-none, laid-next, laid-all, blocks-ready, too-long, too-many}
 use Rattle.schema.specs.Fields.{setsOf}
 use borrow.Author.Needs.{needs}
 use Rattle.decode.proofs.build.laid_out.Tie as tie
 use Rattle.decode.proofs.build.laid_out.Statement.{statement}
 
 abbrev Inv-loop : tie.InvT-loop
-Inv-loop s l sets entries₀ first₀ i₀ entries first i = (i ≤ sets) × (sets ≤ 8) × Laid s i first entries
+Inv-loop s l sets entries₀ first₀ i₀ entries first i = (i ≤ sets) × (sets ≤ 8) × LaidOut s i first entries
 
 abbrev μ-loop : tie.MeasureT-loop
 μ-loop s l sets entries₀ first₀ i₀ entries first i = sets - i
@@ -42,8 +42,8 @@ returns c =
     let s = l .before .before .before .before in
     too-long (now (s .args .s)) (l .loop .i) (k .set .ensures) (rw (l .before .before .sets .ensures) at (k .before .loop-test .taken)) (omega arith) (c .refused .ensures)
 
-blocks-of-requires : tie.Need-blocks-of-requires Inv-loop μ-loop
-blocks-of-requires c κs =
+blocks-held-requires : tie.Need-blocks-held-requires Inv-loop μ-loop
+blocks-held-requires c κs =
     let k = c .before .before in
     let l = k .before .before in
     let s = l .before .before .before .before in
@@ -69,7 +69,7 @@ loop-again c =
     let k = c .before .before .before in
     let l = k .before .before in
     let s = l .before .before .before .before in
-    (search needs, search needs, laid-next (now (s .args .s)) (l .loop .i) (k .set .ensures) (l .loop .inv .2) (omega arith) (omega arith) (c .blocks-of .ensures))
+    (search needs, search needs, laid-next (now (s .args .s)) (l .loop .i) (k .set .ensures) (l .loop .inv .2) (omega arith) (omega arith) (c .blocks-held .ensures))
 
 refused-requires-2 : tie.Need-refused-requires-2 Inv-loop μ-loop
 refused-requires-2 c κs = search needs
@@ -79,7 +79,7 @@ returns-2 c =
     let l = c .before .before .before in
     let s = now (l .before .before .before .before .args .s) in
     let e : l .loop .i ≡ setsOf s = omega arith in
-    let d : Laid s (setsOf s) (l .loop .first) (l .loop .entries) = rw e at (l .loop .inv .2) in
+    let d : LaidOut s (setsOf s) (l .loop .first) (l .loop .entries) = rw e at (l .loop .inv .2) in
     too-many s d (omega arith) (c .refused2 .ensures)
 
 shared-slice-read-t17 : tie.Need-shared-slice-read-t17 Inv-loop μ-loop
@@ -93,7 +93,7 @@ returns-3 c =
     let l = c .before .before .before .before in
     let s = now (l .before .before .before .before .args .s) in
     let e : l .loop .i ≡ setsOf s = omega arith in
-    let d : Laid s (setsOf s) (l .loop .first) (l .loop .entries) = rw e at (l .loop .inv .2) in
+    let d : LaidOut s (setsOf s) (l .loop .first) (l .loop .entries) = rw e at (l .loop .inv .2) in
     laid-all s d (l .before .before .before .before .pre .1 .0) (omega arith)
 
 pub laid-out-spec : {M : Type 1} → statement M
@@ -108,7 +108,7 @@ laid-out-spec =
     set-requires
     refused-requires
     returns
-    blocks-of-requires
+    blocks-held-requires
     add-first
     mul-entries
     array-set-from-entries

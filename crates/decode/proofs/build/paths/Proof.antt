@@ -6,8 +6,8 @@ use lib.ListN.{length}
 use denote.Ref.{now}
 use Rattle.octets.specs.Below.{upto}
 use Rattle.schema.specs.Fields.{countOf}
-use Rattle.decode.specs.DecodeLaws.{fullPath, filled, fill-next, path-at, path-number}
-use Rattle.schema.specs.Decode.{emptyPath, pathFrom}
+use Rattle.decode.specs.DecodeLaws.{filled, fill-next, path-at, path-number}
+use Rattle.schema.specs.Decode.{emptyPath, pathFrom, fullPath}
 use borrow.Author.Needs.{needs}
 use Rattle.decode.proofs.build.paths.Tie as tie
 use Rattle.decode.proofs.build.paths.Statement.{statement}

@@ -10,32 +10,31 @@ use denote.Ref.{now}
 use Rattle.octets.specs.Octets.{byteAt}
 use Rattle.octets.specs.Below.{lowestFrom}
 use Rattle.octets.specs.BelowLaws.{lowestFrom-turn, lowestFrom-hit, lowestFrom-end}
-use Rattle.masters.specs.Scans.{wantedAt}
+use Rattle.masters.specs.Scans.{wantedIn}
 use Rattle.masters.specs.ScanLaws.{asked-is}
 use borrow.Author.Needs.{needs}
 use Rattle.masters.proofs.scan.in_block.Statement.{statement}
 use Rattle.masters.proofs.scan.in_block.Tie as tie
 
 abbrev Inv-loop : tie.InvT-loop
-Inv-loop base at size n live i₀ p₀ i p =
-    (i ≤ n) × (p ≡ at + i * size) × (lowestFrom (wantedAt live base at size) (n - i) i ≡ lowestFrom (wantedAt live base at size) n 0)
+Inv-loop records size n live i₀ p₀ i p = (i ≤ n) × (p ≡ i * size) × (lowestFrom (wantedIn live records size) (n - i) i ≡ lowestFrom (wantedIn live records size) n 0)
 
 abbrev μ-loop : tie.MeasureT-loop
-μ-loop base at size n live i₀ p₀ i p = n - i
+μ-loop records size n live i₀ p₀ i p = n - i
 
--- the record ends within the base
-within : (c : tie.In-loop Inv-loop μ-loop) → c .before .loop .p + c .before .before .args .size ≤ length (now (c .before .before .args .base))
+-- the record ends within the part
+within : (c : tie.In-loop Inv-loop μ-loop) → c .before .loop .p + c .before .before .args .size ≤ length (now (c .before .before .args .records))
 within c =
     let l = c .before in
     let s = l .before in
     omega (arith, mul-le-mul-right (s .args .size) (c .loop-test .taken), s .pre .0, l .loop .inv .1)
 
 -- the code's test is that of the record
-test : (l : tie.At-loop Inv-loop μ-loop) (t : Bool) → Bool·beq (eqb (byteAt (now (l .before .args .base)) (l .loop .p)) 1) (l .before .args .live) ≡ t
-    → wantedAt (l .before .args .live) (now (l .before .args .base)) (l .before .args .at) (l .before .args .size) (l .loop .i) ≡ t
+test : (l : tie.At-loop Inv-loop μ-loop) (t : Bool) → Bool·beq (eqb (byteAt (now (l .before .args .records)) (l .loop .p)) 1) (l .before .args .live) ≡ t
+    → wantedIn (l .before .args .live) (now (l .before .args .records)) (l .before .args .size) (l .loop .i) ≡ t
 test l t h =
     let a = l .before .args in
-    rw (l .loop .inv .1) at (sym (asked-is (a .live) (eqb (byteAt (now (a .base)) (l .loop .p)) 1)) ∙ h)
+    rw (l .loop .inv .1) at (sym (asked-is (a .live) (eqb (byteAt (now (a .records)) (l .loop .p)) 1)) ∙ h)
 
 loop-holds : tie.Need-loop-holds Inv-loop μ-loop
 loop-holds c = (omega arith, omega arith, rw sub-zero)
@@ -47,7 +46,7 @@ returns : tie.Need-returns Inv-loop μ-loop
 returns c =
     let l = c .before .before .before in
     let a = l .before .args in
-    sym (lowestFrom-hit (wantedAt (a .live) (now (a .base)) (a .at) (a .size)) (a .n - l .loop .i) (a .n - (l .loop .i + 1)) (l .loop .i) (omega arith) (test l true (c .if1 .taken))) ∙ l .loop .inv .2
+    sym (lowestFrom-hit (wantedIn (a .live) (now (a .records)) (a .size)) (a .n - l .loop .i) (a .n - (l .loop .i + 1)) (l .loop .i) (omega arith) (test l true (c .if1 .taken))) ∙ l .loop .inv .2
 
 add-i : tie.Need-add-i Inv-loop μ-loop
 add-i c = search needs
@@ -64,7 +63,7 @@ loop-again c =
     let a = l .before .args in (
       omega arith,
       omega arith,
-      sym (lowestFrom-turn (wantedAt (a .live) (now (a .base)) (a .at) (a .size)) (a .n - l .loop .i) (a .n - (l .loop .i + 1)) (l .loop .i) (omega arith) (test l false (c .if1 .left))) ∙ l .loop .inv .2,
+      sym (lowestFrom-turn (wantedIn (a .live) (now (a .records)) (a .size)) (a .n - l .loop .i) (a .n - (l .loop .i + 1)) (l .loop .i) (omega arith) (test l false (c .if1 .left))) ∙ l .loop .inv .2,
     )
 
 returns-2 : tie.Need-returns-2 Inv-loop μ-loop
@@ -72,7 +71,7 @@ returns-2 c =
     let l = c .before in
     let a = l .before .args in
     let e : l .loop .i ≡ a .n = omega arith in
-    sym e ∙ sym (lowestFrom-end (wantedAt (a .live) (now (a .base)) (a .at) (a .size)) (a .n - l .loop .i) (l .loop .i) (omega arith)) ∙ l .loop .inv .2
+    sym e ∙ sym (lowestFrom-end (wantedIn (a .live) (now (a .records)) (a .size)) (a .n - l .loop .i) (l .loop .i) (omega arith)) ∙ l .loop .inv .2
 
 pub in-block-spec : {M : Type 1} → statement M
 in-block-spec =

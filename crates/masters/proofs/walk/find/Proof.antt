@@ -5,18 +5,18 @@ use mathlib.Core.Bool.{Bool, true, false}
 use denote.Ref.{now}
 use borrow.Author.Needs.{needs}
 use borrow.Author.Tests.{not-true, not-false}
-use Rattle.octets.specs.BelowLaws.{never-both}
 use Rattle.terms.specs.Terms.{keyOf}
 use Rattle.schema.specs.Place.{InSet}
 use Rattle.masters.specs.Find.{homeIn, heldByOwn}
-use Rattle.masters.specs.WalkLaws.{home-in-set, find-not-held, find-held}
+use Rattle.masters.specs.WalkLaws.{find-not-held, find-held}
+use Rattle.terms.specs.Laws.{home-in-set}
 use Rattle.masters.proofs.walk.find.Statement.{statement}
 use Rattle.masters.proofs.walk.find.Tie as tie
 
 here : (c : tie.After-home) → InSet (c .before .before .args .e) (c .home .result .0)
 here c =
     let s = c .before .before in
-    rw (c .home .ensures) (home-in-set (s .args .e) (keyOf (s .args .k)) (s .pre .1 .1 .0))
+    rw (c .home .ensures) (home-in-set (s .args .e .records) (keyOf (s .args .k)) (s .pre .1 .1 .0))
 
 -- what was asked of the home
 asked : (c : tie.After-held-by-own) (t : Bool) → c .held-by-own .result ≡ t
@@ -34,7 +34,7 @@ returns c =
     let p = c .before in
     let a = p .before .before .before .args in
     let f = asked p false (not-true _ (c .if1 .taken)) in
-    (find-not-held (now (a .base)) (a .e) (keyOf (a .k)) f, (here (p .before), λ q t. absurd (never-both _ t f)))
+    (find-not-held (now (a .base)) (a .e) (keyOf (a .k)) f, rw f (p .before .home .ensures))
 
 seek-from-requires : tie.Need-seek-from-requires
 seek-from-requires c κs =
@@ -47,7 +47,9 @@ returns-2 c =
     let p = c .before .before in
     let a = p .before .before .before .args in
     let s = rw (p .before .home .ensures) at (c .seek-from .ensures) in
-    (s .0 ∙ find-held (now (a .base)) (a .e) (keyOf (a .k)) (asked p true (not-false _ (c .before .if1 .left))), (s .1 .0, λ q t. s .1 .1 q))
+    let t = asked p true (not-false _ (c .before .if1 .left)) in
+    let f = s .0 ∙ find-held (now (a .base)) (a .e) (keyOf (a .k)) t in
+    (f, rw (t, ← f) (s .1))
 
 pub find-spec : {M : Type 1} → statement M
 find-spec =

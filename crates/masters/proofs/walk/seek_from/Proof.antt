@@ -1,7 +1,7 @@
 -- `masters::walk::seek_from` meets its contract. The invariant: from where the walk stands there is left to find what the whole search
 -- finds, and the chain ends where it ended from the home. The measure: what may still be visited. Assumes nothing.
-use Prim.Native.Nat.{ℕ, _-_, _≤_}
-use mathlib.Core.Path.{_≡_, sym, ap, _∙_}
+use Prim.Native.Nat.{_-_, _≤_}
+use mathlib.Core.Path.{_≡_, refl, sym, ap, _∙_}
 use native.Mathlib.Omega.{arith}
 use native.Mathlib.Nat.{sub-zero}
 use denote.Ref.{now}
@@ -50,7 +50,7 @@ enum-known-r c = search needs
 returns : tie.Need-returns Inv-loop μ-loop
 returns c =
     let s = c .before .before .before in
-    (rw (c .before .r .given .1) at (turned s), (s .before .before .before .pre .1 .1 .0, λ q. absurd (let z : _≡_ {A = ℕ} 0 1 = cc in omega arith)))
+    (rw (c .before .r .given .1) at (turned s), refl)
 
 enum-told : tie.Need-enum-told Inv-loop μ-loop
 enum-told c = search needs
@@ -60,7 +60,7 @@ returns-2 c =
     let s = c .before .before in
     let a = s .before .before .before .args in
     let t = walk-ends (now (a .base)) (a .e) (keyOf (a .k)) (s .before .loop .w) (sym (s .step .ensures) ∙ c .enum-told .given .1) in
-    (rw (c .enum-told .given .1) at (turned s), (t .0, λ q. sym (t .1) ∙ s .before .loop .inv .2))
+    (rw (c .enum-told .given .1) at (turned s), sym t ∙ s .before .loop .inv .2)
 
 enum-told-2 : tie.Need-enum-told-2 Inv-loop μ-loop
 enum-told-2 c = search needs
@@ -68,7 +68,7 @@ enum-told-2 c = search needs
 returns-3 : tie.Need-returns-3 Inv-loop μ-loop
 returns-3 c =
     let s = c .before .before in
-    (rw (c .enum-told2 .given .1) at (turned s), (s .before .before .before .pre .1 .1 .0, λ q. absurd (let z : _≡_ {A = ℕ} 0 1 = cc in omega arith)))
+    (rw (c .enum-told2 .given .1) at (turned s), refl)
 
 enum-known-n : tie.Need-enum-known-n Inv-loop μ-loop
 enum-known-n c = search needs

@@ -8,11 +8,11 @@ use borrow.Author.Needs.{needs}
 use Rattle.plans.proofs.Plan.with_word.Statement.{statement}
 use Rattle.plans.proofs.Plan.with_word.Tie as tie
 
-mul-t7 : tie.Need-mul-t7
-mul-t7 c = search needs
+mul-w : tie.Need-mul-w
+mul-w c = search needs
 
-element-set-from-p : tie.Need-element-set-from-p
-element-set-from-p c = search needs
+element-set-from-w : tie.Need-element-set-from-w
+element-set-from-w c = search needs
 
 add-p : tie.Need-add-p
 add-p c = search needs
@@ -21,7 +21,7 @@ returns : tie.Need-returns
 returns c =
     let p = c .args .self in
     let h : p .count < length (p .words) = (let g : length (p .words) ≡ 8 = sym (length-map (p .words) _) ∙ c .good .0 .1 .1 .1 .1 .1 .1 .0 .1 .0 .1 in omega arith) in
-    (refl, refl, refl, refl, refl, rw add-one (take-suc-set (p .words) (p .count) _ h), refl)
+    (refl, rw add-one (take-suc-set (p .words) (p .count) _ h))
 
 pub with-word-spec : {M : Type 1} → statement M
-with-word-spec = tie.close (tie.spec mul-t7 element-set-from-p add-p returns)
+with-word-spec = tie.close (tie.spec mul-w element-set-from-w add-p returns)

@@ -1,11 +1,15 @@
--- `records::fields::wipe` meets its contract: the record lies within the data base. Assumes nothing.
-use Prim.Native.Nat.{_+_, _≤_}
+-- `records::fields::wipe` meets its contract: zeros stored over the record's part are stored into the data base. Assumes nothing.
+use Prim.Native.Nat.{ℕ, _+_, _≤_}
+use mathlib.Core.Path.{_≡_}
 use native.Mathlib.Omega.{arith}
-use lib.ListN.{length}
+use native.Mathlib.Nat.{add-sub-cancel-left}
+use lib.ListN.{length, length-replicate}
 use denote.Ref.{now}
-use borrow.Author.Needs.{needs}
+use Rattle.octets.specs.Octets.{zeros}
+use Rattle.octets.specs.SpliceLaws.{splice-part}
 use Rattle.schema.specs.Place.{placeOf}
 use Rattle.schema.specs.PlaceLaws.{place-inside}
+use borrow.Author.Needs.{needs}
 use Rattle.records.proofs.fields.wipe.Statement.{statement}
 use Rattle.records.proofs.fields.wipe.Tie as tie
 
@@ -15,17 +19,47 @@ within s = place-inside (s .args .r .0) (s .pre .1) (s .pre .0)
 place-of-requires : tie.Need-place-of-requires
 place-of-requires c κs = search needs
 
-cast-zero : tie.Need-cast-zero
-cast-zero c = search needs
+cast-size : tie.Need-cast-size
+cast-size c = search needs
+
+add-end : tie.Need-add-end
+add-end c = omega (arith, within (c .before .before .before), c .before .place-of .ensures)
+
+sub-zero : tie.Need-sub-zero
+sub-zero c = search needs
+
+part-zero-start : tie.Need-part-zero-start
+part-zero-start c = search needs
+
+part-zero-end : tie.Need-part-zero-end
+part-zero-end c = omega (arith, within (c .before .before .before), c .before .place-of .ensures)
 
 zero-requires : tie.Need-zero-requires
-zero-requires c κs = omega (arith, within (c .before .before .before .before), c .before .place-of .ensures)
+zero-requires c κs = search needs
 
 same-length : tie.Need-same-length
 same-length c = search needs
 
 returns : tie.Need-returns
-returns c = cc
+returns c =
+    let p = c .before .before in
+    let d = p .before .before .before in
+    let s = d .before .before in
+    let a = s .args in
+    let z : placeOf (a .e) (a .r .0) + 0 ≡ placeOf (a .e) (a .r .0) = omega arith in
+    rw (add-sub-cancel-left (d .place-of .result) (a .e .size), p .zero .ensures, add-sub-cancel-left (d .place-of .result) (a .e .size), d .place-of .ensures)
+    (rw z at (splice-part (placeOf (a .e) (a .r .0)) (a .e .size) (now (a .base)) 0 (zeros (a .e .size)) (omega (arith, length-replicate {A = ℕ} (a .e .size) 0))))
 
 pub wipe-spec : {M : Type 1} → statement M
-wipe-spec = tie.close (tie.spec place-of-requires cast-zero zero-requires same-length returns)
+wipe-spec =
+    tie.close
+    (tie.spec
+    place-of-requires
+    cast-size
+    add-end
+    sub-zero
+    part-zero-start
+    part-zero-end
+    zero-requires
+    same-length
+    returns)

@@ -3,7 +3,7 @@ use mathlib.Core.Path.{_≡_, sym}
 use native.Mathlib.Omega.{arith}
 use native.Mathlib.Nat.{add-sub-cancel-left}
 use lib.ListN.{length}
-use Rattle.terms.specs.Laws.{key-length}
+use Rattle.terms.specs.Laws.{keyOf-length}
 use borrow.Author.Needs.{needs}
 use Rattle.terms.proofs.Key.at.Statement.{statement}
 use Rattle.terms.proofs.Key.at.Tie as tie
@@ -19,7 +19,7 @@ array-share-prefix-bytes c =
 slice-aggregate-same : tie.Need-slice-aggregate-same
 slice-aggregate-same c =
     let s = c .before .before .before in
-    sym (key-length (s .args .self .bytes) (s .args .self .len) (search needs) (s .pre .0))
+    sym (keyOf-length (s .args .self .bytes) (s .args .self .len) (search needs) (s .pre .0))
 
 sub-same : tie.Need-sub-same
 sub-same c = search needs

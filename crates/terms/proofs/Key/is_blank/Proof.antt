@@ -2,7 +2,7 @@
 use mathlib.Core.Path.{_≡_, sym}
 use native.Mathlib.Omega.{arith}
 use lib.ListN.{length}
-use Rattle.terms.specs.Laws.{key-length}
+use Rattle.terms.specs.Laws.{keyOf-length}
 use borrow.Author.Needs.{needs}
 use Rattle.terms.proofs.Key.is_blank.Statement.{statement}
 use Rattle.terms.proofs.Key.is_blank.Tie as tie
@@ -15,7 +15,7 @@ array-share-prefix-bytes c =
 slice-aggregate-all : tie.Need-slice-aggregate-all
 slice-aggregate-all c =
     let s = c .before .before in
-    sym (key-length (s .args .self .bytes) (s .args .self .len) (search needs) (s .pre))
+    sym (keyOf-length (s .args .self .bytes) (s .args .self .len) (search needs) (s .pre))
 
 all-requires : tie.Need-all-requires
 all-requires c κs = search needs

@@ -2,7 +2,7 @@
 use mathlib.Core.Path.{_≡_, sym}
 use native.Mathlib.Omega.{arith}
 use lib.ListN.{length}
-use Rattle.terms.specs.Laws.{key-length}
+use Rattle.terms.specs.Laws.{keyOf-length}
 use borrow.Author.Needs.{needs}
 use Rattle.terms.proofs.Key.same.Statement.{statement}
 use Rattle.terms.proofs.Key.same.Tie as tie
@@ -15,7 +15,7 @@ array-share-prefix-a c =
 slice-aggregate-same : tie.Need-slice-aggregate-same
 slice-aggregate-same c =
     let s = c .before .before .before in
-    sym (key-length (s .args .self .bytes) (s .args .self .len) (search needs) (s .pre .0))
+    sym (keyOf-length (s .args .self .bytes) (s .args .self .len) (search needs) (s .pre .0))
 
 array-share-prefix-b : tie.Need-array-share-prefix-b
 array-share-prefix-b c =
@@ -25,7 +25,7 @@ array-share-prefix-b c =
 slice-aggregate-same-2 : tie.Need-slice-aggregate-same-2
 slice-aggregate-same-2 c =
     let s = c .before .before .before .before in
-    sym (key-length (s .args .other .bytes) (s .args .other .len) (search needs) (s .pre .1))
+    sym (keyOf-length (s .args .other .bytes) (s .args .other .len) (search needs) (s .pre .1))
 
 same-requires : tie.Need-same-requires
 same-requires c κs = search needs

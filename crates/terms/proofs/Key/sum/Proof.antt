@@ -2,7 +2,7 @@
 use mathlib.Core.Path.{_≡_, sym}
 use native.Mathlib.Omega.{arith}
 use lib.ListN.{length}
-use Rattle.terms.specs.Laws.{key-length}
+use Rattle.terms.specs.Laws.{keyOf-length}
 use borrow.Author.Needs.{needs}
 use Rattle.terms.proofs.Key.sum.Statement.{statement}
 use Rattle.terms.proofs.Key.sum.Tie as tie
@@ -15,7 +15,7 @@ array-share-prefix-bytes c =
 slice-aggregate-word-sum : tie.Need-slice-aggregate-word-sum
 slice-aggregate-word-sum c =
     let s = c .before .before in
-    sym (key-length (s .args .self .bytes) (s .args .self .len) (search needs) (s .pre))
+    sym (keyOf-length (s .args .self .bytes) (s .args .self .len) (search needs) (s .pre))
 
 word-sum-requires : tie.Need-word-sum-requires
 word-sum-requires c κs = search needs

@@ -1,0 +1,108 @@
+-- What a call that has passed its tests of parameters knows, in the words of the proof. `t` is the schema, `c` the call; its set is number
+-- `n`, with the entry `e`, and the named path is number `j` of it. The numbers over the lemmas, 4 to 11, are those of the tests in document 01,
+-- "Status numbers".
+use Prim.Native.Nat.{ℕ, _<_}
+use mathlib.Core.Path.{_≡_}
+use mathlib.Core.Bool.{true, false, cond, not, _&&_}
+use mathlib.Core.List.{List, [], _∷_}
+use lib.ListN.{length}
+use borrow.Author.Tests.{eqb-true, ltb-true, not-true, not-false}
+use Rattle.octets.specs.Octets.{allBlank, sameBytes}
+use Rattle.octets.specs.BelowLaws.{allBelow-at}
+use Rattle.octets.specs.TestLaws.{asked, neither}
+use Rattle.octets.specs.RunLaws.{sameBytes-eq}
+use Rattle.terms.specs.declared.Operation.{Operation}
+use Rattle.terms.specs.declared.Operation.the-variants.{Formt, Sinon, AddM, DelM, Writm, Rqloc, Rdnxt, Readd, Writv, Addvb, Addva, Delvd}
+use Rattle.terms.specs.Operation.{operationOf}
+use Rattle.schema.specs.declared.Entry.{Entry}
+use Rattle.schema.specs.declared.Schema.{Schema}
+use Rattle.schema.specs.Decode.{entryOf, setCount}
+use Rattle.schema.specs.Place.{InSet}
+use Rattle.schema.specs.Guarantee.{SchemaOk, IsPathOf}
+use Rattle.records.specs.KindLaws.{among-masters, behind-masters}
+use Rattle.records.specs.Areas.{isMaster, areaLength, areaMasterKey, areaKeyOn}
+use Rattle.masters.specs.FindLaws.{inSet-true}
+use Rattle.calls.specs.Call.{Call, oneOf, masterCalls, variableCalls, adds}
+use Rattle.calls.specs.Scene.{sceneUnder}
+use Rattle.schema.specs.Naming.{setNamed, pathNamed}
+use Rattle.calls.specs.Ladder.{wrongKind, blankAreaKey, otherAreaKey, parameterTests}
+use Rattle.calls.specs.LadderLaws.{Passes}
+use Rattle.condition3.specs.Calm.{unasked}
+
+kind-master : (o : Operation) (e : Entry) → wrongKind o e ≡ false → oneOf o masterCalls ≡ true → isMaster e ≡ true
+unfolding wrongKind
+kind-master o e h m = not-false _ (asked (oneOf o masterCalls) (not (isMaster e)) (neither _ _ h .0) m)
+
+kind-variable : (o : Operation) (e : Entry) → wrongKind o e ≡ false → oneOf o variableCalls ≡ true → isMaster e ≡ false
+unfolding wrongKind
+kind-variable o e h m = asked (oneOf o variableCalls) (isMaster e) (neither (oneOf o masterCalls && not (isMaster e)) _ h .1) m
+
+pub same-master-key : (e : Entry) (j : ℕ) (key area : List ℕ) → isMaster e ≡ true → otherAreaKey e j key area ≡ false → areaMasterKey e area ≡ key
+unfolding otherAreaKey
+same-master-key e j key area m h = sameBytes-eq (areaMasterKey e area) key (rw m at (not-false (sameBytes (cond (isMaster e) (areaMasterKey e area) (areaKeyOn e area j)) key) h))
+
+pub same-path-key : (e : Entry) (j : ℕ) (key area : List ℕ) → isMaster e ≡ false → otherAreaKey e j key area ≡ false → areaKeyOn e area j ≡ key
+unfolding otherAreaKey
+same-path-key e j key area m h = sameBytes-eq (areaKeyOn e area j) key (rw m at (not-false (sameBytes (cond (isMaster e) (areaMasterKey e area) (areaKeyOn e area j)) key) h))
+
+pub no-blank-keys : (e : Entry) (area : List ℕ) → isMaster e ≡ false → blankAreaKey e area ≡ false → (k : ℕ) → k < e .count → allBlank (areaKeyOn e area k) ≡ false
+unfolding blankAreaKey
+no-blank-keys e area m h k l = not-true _ (allBelow-at (λ k. not (allBlank (areaKeyOn e area k))) (e .count) k (not-false _ (rw m at h)) l)
+
+module _ (t : Schema) (ok : SchemaOk t) (c : Call) where
+  abbrev o : Operation
+  o = operationOf (c .operation)
+
+  abbrev n : ℕ
+  n = setNamed t (c .name)
+
+  abbrev e : Entry
+  e = entryOf t n
+
+  abbrev j : ℕ
+  j = pathNamed t e (c .path)
+
+  module _ (h : Passes (parameterTests (sceneUnder t c) c)) where
+    -- 4
+    set-known : oneOf o (Formt ∷ Sinon ∷ []) ≡ false → n < setCount t
+    unfolding sceneUnder
+    set-known q = ltb-true _ _ (not-false _ (unasked (oneOf o (Formt ∷ Sinon ∷ [])) _ (h .0) q))
+
+    -- 5
+    kind-right : oneOf o (Formt ∷ Sinon ∷ []) ≡ false → wrongKind o e ≡ false
+    unfolding sceneUnder
+    kind-right q = unasked (oneOf o (Formt ∷ Sinon ∷ [])) _ (h .1 .0) q
+
+    pub of-masters : oneOf o (Formt ∷ Sinon ∷ []) ≡ false → oneOf o masterCalls ≡ true → (n < t .masters) × (isMaster e ≡ true)
+    of-masters q m = let k = kind-master o e (kind-right q) m in (among-masters t ok n (set-known q) k, k)
+
+    -- 6
+    pub on-points : oneOf o (Formt ∷ Sinon ∷ []) ≡ false → oneOf o variableCalls ≡ true → IsPathOf t n j × (isMaster e ≡ false)
+    unfolding sceneUnder
+    on-points q m =
+        let k = kind-variable o e (kind-right q) m in
+        ((behind-masters t ok n k, set-known q, ltb-true _ _ (not-false _ (asked (oneOf o variableCalls) _ (h .1 .1 .0) m))), k)
+
+    -- 7
+    pub area-right : oneOf o (Formt ∷ Sinon ∷ DelM ∷ Delvd ∷ Rqloc ∷ []) ≡ false → length (c .area) ≡ areaLength e
+    unfolding sceneUnder
+    area-right q = eqb-true _ _ (not-false _ (unasked (oneOf o (Formt ∷ Sinon ∷ DelM ∷ Delvd ∷ Rqloc ∷ [])) _ (h .1 .1 .1 .0) q))
+
+    -- 9
+    pub key-told : oneOf o (Formt ∷ Sinon ∷ Rdnxt ∷ []) ≡ false → allBlank (c .key) ≡ false
+    unfolding sceneUnder
+    key-told q = unasked (oneOf o (Formt ∷ Sinon ∷ Rdnxt ∷ [])) _ (h .1 .1 .1 .1 .1 .0) q
+
+    pub area-keys-told : oneOf o (AddM ∷ adds) ≡ true → blankAreaKey e (c .area) ≡ false
+    unfolding sceneUnder
+    area-keys-told q = asked (oneOf o (AddM ∷ adds)) _ (h .1 .1 .1 .1 .1 .1 .0) q
+
+    -- 10
+    pub area-key-same : oneOf o (AddM ∷ Writm ∷ adds) ≡ true → otherAreaKey e j (c .key) (c .area) ≡ false
+    unfolding sceneUnder
+    area-key-same q = asked (oneOf o (AddM ∷ Writm ∷ adds)) _ (h .1 .1 .1 .1 .1 .1 .1 .0) q
+
+    -- 11
+    pub number-told : oneOf o (Readd ∷ Writv ∷ Addvb ∷ Addva ∷ Delvd ∷ []) ≡ true → InSet e (c .reference)
+    unfolding sceneUnder
+    number-told q = inSet-true e (c .reference) (not-false _ (asked (oneOf o (Readd ∷ Writv ∷ Addvb ∷ Addva ∷ Delvd ∷ [])) _ (h .1 .1 .1 .1 .1 .1 .1 .1 .1 .1 .1 .0) q))

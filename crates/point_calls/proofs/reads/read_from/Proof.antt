@@ -1,0 +1,52 @@
+use mathlib.Core.Path.{sym, _∙_}
+use Rattle.masters.specs.FindLaws.{find-at}
+use Rattle.point_calls.specs.CallLaws.{read-refused, read-ends, read-low}
+use Rattle.records.specs.InBaseLaws.{reached}
+use borrow.Author.Needs.{needs}
+use Rattle.point_calls.proofs.reads.read_from.Statement.{statement}
+use Rattle.point_calls.proofs.reads.read_from.Tie as tie
+
+pointer-on-requires : tie.Need-pointer-on-requires
+pointer-on-requires c κs =
+    let s = c .before .before in
+    (reached (s .pre .0), (find-at _ _ _ _ (s .pre .1 .1 .1 .1 .1 .master) .in-set, s .pre .1 .1 .1 .0))
+
+read-damaged-requires : tie.Need-read-damaged-requires
+read-damaged-requires c κs =
+    let s = c .before .before .before in
+    (reached (s .pre .0), (find-at _ _ _ _ (s .pre .1 .1 .1 .1 .1 .master) .in-set, s .pre .1 .0))
+
+ended-requires : tie.Need-ended-requires
+ended-requires c κs = search needs
+
+returns : tie.Need-returns
+returns c =
+    let s = c .before .before .before .before .before .before in
+    rw (c .ended .ensures .0, c .ended .ensures .1)
+    (read-refused (s .args .back) _ _ _ _ _ _ _ _ _ _ (s .pre .1 .1 .1 .1 .0) (s .pre .1 .1 .1 .1 .1) (c .before .before .before .pointer-on .ensures) (sym (c .before .before .read-damaged .ensures) ∙ c .before .if1 .taken))
+
+give-requires : tie.Need-give-requires
+give-requires c κs =
+    let s = c .before .before .before .before .before .before in
+    (reached (s .pre .0) .points .lies, (reached (s .pre .0) .points .fields, (read-low _ _ _ _ _ _ _ _ (sym (c .before .before .read-damaged .ensures) ∙ c .before .if1 .left), search needs)))
+
+same-length : tie.Need-same-length
+same-length c = search needs
+
+returns-2 : tie.Need-returns-2
+returns-2 c =
+    let g = c .before .before in
+    let s = g .before .before .before .before .before .before .before in
+    read-ends (s .args .back) _ _ _ _ _ _ _ _ _ _ (s .pre .1 .1 .1 .1 .0) (s .pre .1 .1 .1 .1 .1) (g .before .before .before .before .pointer-on .ensures) (sym (g .before .before .before .read-damaged .ensures) ∙ g .before .before .if1 .left) (g .give .ensures)
+
+pub read-from-spec : {M : Type 1} → statement M
+read-from-spec =
+    tie.close
+    (tie.spec
+    pointer-on-requires
+    read-damaged-requires
+    ended-requires
+    returns
+    give-requires
+    same-length
+    returns-2)

@@ -1,0 +1,80 @@
+use mathlib.Core.Path.{refl, ap, _∙_}
+use native.Mathlib.Omega.{arith}
+use Rattle.calls.specs.Reply.{orLink}
+use Rattle.point_calls.specs.PathLaws.{delvd-call}
+use Rattle.point_calls.specs.SeekLaws.{seen, by-seek-under}
+use Rattle.point_calls.specs.StoreLaws.{delvd-finds, delvd-ends}
+use Rattle.records.specs.InBaseLaws.{reached-under, variable-under, on-among}
+use borrow.Author.Needs.{needs}
+use Rattle.point_calls.proofs.writes.delvd.Statement.{statement}
+use Rattle.point_calls.proofs.writes.delvd.Tie as tie
+
+of-requires : tie.Need-of-requires
+of-requires c κs =
+    let s = c .before .before .before in
+    omega (arith, s .pre .1 .0, reached-under (s .pre .0) .masters .ok .key-most)
+
+seek-requires : tie.Need-seek-requires
+seek-requires c κs =
+    let s = c .before .before .before .before .before in
+    (reached-under (s .pre .0), (c .before .of .ensures .1 ∙ s .pre .1 .0, λ h. s .pre .1 .1))
+
+number-requires : tie.Need-number-requires
+number-requires c κs = search needs
+
+ended-requires : tie.Need-ended-requires
+ended-requires c κs = search needs
+
+same-length : tie.Need-same-length
+same-length c = search needs
+
+returns : tie.Need-returns
+returns c =
+    rw (c .ended .ensures .0, c .ended .ensures .1)
+    (by-seek-under _ delvd-call _ _ _ _ _ _ _ _ _ (c .before .before .before .seek .ensures) (c .before .before .before .before .before .of .ensures .0) refl (c .before .before .number .ensures) (c .before .if1 .taken) _ _)
+
+prior-on-requires : tie.Need-prior-on-requires
+prior-on-requires c κs =
+    let s = c .before .before .before .before .before .before .before .before .before in
+    (s .pre .1 .1, (reached-under (s .pre .0) .points .lies, reached-under (s .pre .0) .path .inside))
+
+delete-requires : tie.Need-delete-requires
+delete-requires c κs =
+    let s = c .before .before .before .before .before .before .before .before .before .before .before in
+    (variable-under (s .pre .0), (s .pre .1 .1, (on-among (s .pre .0), delvd-finds _ _ _ _ _ _ _ _ _ (s .pre .0) (seen _ _ _ _ _ _ _ _ (c .before .before .before .before .before .seek .ensures) (c .before .before .before .before .before .before .before .of .ensures .0) (c .before .before .before .before .number .ensures) (c .before .before .before .if1 .left)))))
+
+or-link-requires : tie.Need-or-link-requires
+or-link-requires c κs = search needs
+
+settle-requires : tie.Need-settle-requires
+settle-requires c κs =
+    let s = c .before .before .before .before .before .before .before .before .before .before .before .before .before .before in
+    let a = c .before .before in
+    (reached-under (s .pre .0) .points .lies, (reached-under (s .pre .0) .points .fields, λ d. (a .delete .ensures .1 .0 d .1, rw (a .delete .ensures .1 .0 d .2) tt)))
+
+same-length-2 : tie.Need-same-length-2
+same-length-2 c = search needs
+
+returns-2 : tie.Need-returns-2
+returns-2 c =
+    let g = c .before .before in
+    let a = g .before .before .before in
+    delvd-ends _ _ _ _ _ _ _ _ _ _ (seen _ _ _ _ _ _ _ _ (g .before .before .before .before .before .before .before .before .before .seek .ensures) (g .before .before .before .before .before .before .before .before .before .before .before .of .ensures .0) (g .before .before .before .before .before .before .before .before .number .ensures) (g .before .before .before .before .before .before .before .if1 .left)) _ _ _ (a .delete .ensures .0) (λ d. a .delete .ensures .1 .0 d .0 _)
+    (g .before .before .or-link .ensures ∙ ap (orLink (g .before .before .before .before .before .before .before .before .before .before .before .before .before .before .before .args .p)) (g .before .before .before .before .before .prior-on .ensures)) (g .settle .ensures)
+
+pub delvd-spec : {M : Type 1} → statement M
+delvd-spec =
+    tie.close
+    (tie.spec
+    of-requires
+    seek-requires
+    number-requires
+    ended-requires
+    same-length
+    returns
+    prior-on-requires
+    delete-requires
+    or-link-requires
+    settle-requires
+    same-length-2
+    returns-2)

@@ -1,0 +1,10 @@
+pub mod Rest
+pub mod Paths
+pub mod Within
+pub mod Plans
+pub mod WithinLaws
+pub mod PathLaws
+pub mod DamageLaws
+pub mod PlanLaws
+pub mod SideLaws
+pub mod CallLaws

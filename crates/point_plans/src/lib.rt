@@ -1,0 +1,187 @@
+// The adds and DELVD: what a point's call reads on every path of its set, what it refuses, and the plan of what it stores.
+use masters::scan::lowest_free;
+use plans::Head;
+use plans::Plan;
+use plans::Planned;
+use plans::refused;
+use points::Spot;
+use records::Link;
+use schema::Entry;
+use schema::Part;
+use schema::Schema;
+use schema::layout::record_of;
+use terms::RecordNo;
+use terms::Status;
+ghost use mathlib.Core.Path.{_≡_};
+ghost use mathlib.Core.Bool.{cond};
+ghost use mathlib.Core.List.{List};
+ghost use Prim.Native.Nat.{ℕ, _<_};
+ghost use lib.ListN.{length, take};
+ghost use Rattle.terms.specs.declared.Status.the-variants.{Done, Full, Damg};
+ghost use Rattle.schema.specs.Decode.{pathOf};
+ghost use Rattle.schema.specs.Place.{InSet};
+ghost use Rattle.records.specs.Records.{keyOn};
+ghost use Rattle.records.specs.Areas.{areaLength, areaKeyOn};
+ghost use Rattle.plans.specs.declared.Head.the-variants.{Nothing, Variable};
+ghost use Rattle.plans.specs.PlanOk.{PlanOk};
+ghost use Rattle.plans.specs.Stores.{planStores};
+ghost use Rattle.plans.specs.Made.{NoneRefused};
+ghost use Rattle.masters.specs.declared.Found.the-variants.{At};
+ghost use Rattle.masters.specs.Find.{lowestFree, isFull};
+ghost use Rattle.points.specs.Points.{findOn, addStores, delStores};
+ghost use Rattle.point_plans.specs.Rest.{addStatus, delStatus};
+ghost use Rattle.point_plans.specs.Paths.{ownLinks, newLinks, bothOn, damaged};
+ghost use Rattle.point_plans.specs.Within.{OwnersIn, KeysIn, LinksIn, SpotIn};
+ghost use Rattle.records.specs.InBase.{VariableIn, PointsIn};
+ghost use Rattle.point_plans.specs.Plans.{Built};
+
+pub mod damage;
+pub mod links;
+pub mod search;
+pub mod sides;
+
+// What the search for one path's master came to: a refusal, or, where the status is Done, where its record lies.
+pub struct Owner {
+    pub status: Status,
+    pub part: Part,
+}
+
+// The same of all paths.
+pub struct Owners {
+    pub status: Status,
+    pub parts: [Part; 4],
+}
+
+// The plan of an add, for the record that it takes.
+fn linked_plan(e: Entry, owners: [Part; 4], links: [Link; 4], r: u32) -> Plan
+    requires { ⌜ PointsIn e 2097152 ⌝ }
+    requires { ⌜ OwnersIn e owners 2097152 ⌝ }
+    requires { ⌜ LinksIn e links ⌝ }
+    ensures { λ p. ⌜ Built e owners (take (e .count) links) (bothOn e r) Variable r 0 p ⌝ }
+{
+    let both = [Link { prior: r, next: r }; 4];
+    let plan = Plan::of(Head::Variable, RecordNo(r), RecordNo(0), links);
+    sides::with_sides(plan, e, owners, links, both)
+}
+
+// The plan of DELVD of the record r.
+fn unlinked_plan(e: Entry, owners: [Part; 4], links: [Link; 4], r: RecordNo) -> Plan
+    requires { ⌜ PointsIn e 2097152 ⌝ }
+    requires { ⌜ OwnersIn e owners 2097152 ⌝ }
+    requires { ⌜ LinksIn e links ⌝ }
+    ensures { λ p. ⌜ Built e owners (take (e .count) links) (take (e .count) links) Nothing (r .0) (r .0) p ⌝ }
+{
+    let plan = Plan::of(Head::Nothing, r, RecordNo(0), links);
+    sides::with_sides(plan, e, owners, links, links).with_wiped(r)
+}
+
+// The rest of an add, once every path's master is found: "15; 16".
+fn add_known(
+    base: &[u8],
+    e: Entry,
+    area: &[u8],
+    at: [usize; 4],
+    owners: [Part; 4],
+    spot: Spot,
+    on: usize,
+) -> Planned
+    requires { ⌜ PointsIn e (length (now base)) ⌝ }
+    requires { ⌜ KeysIn e at (length (now area)) ⌝ }
+    requires { ⌜ OwnersIn e owners (length (now base)) ⌝ }
+    requires { ⌜ SpotIn spot e ⌝ }
+    ensures { λ r. ⌜ r .status ≡ cond (isFull (now (base .entry)) e) Full (cond (damaged (now (base .entry)) e (now (area .entry)) at owners (newLinks (now (base .entry)) e owners spot on)) Damg Done) ⌝ }
+    ensures { λ r. ⌜ (r .status ≡ Done → Built e owners (newLinks (now (base .entry)) e owners spot on) (bothOn e (lowestFree (now (base .entry)) e)) Variable (lowestFree (now (base .entry)) e) 0 (r .plan)) ⌝ }
+    ensures { λ r. ⌜ NoneRefused r ⌝ }
+{
+    let free = lowest_free(base, e);
+    if e.records < free {
+        return refused(Status::Full);
+    }
+    let links = links::new_links(base, e, owners, spot, on);
+    if damage::any_damaged(base, e, area, at, owners, links) {
+        return refused(Status::Damg);
+    }
+    let plan = linked_plan(e, owners, links, free);
+    Planned {
+        status: Status::Done,
+        plan,
+    }
+}
+
+// The rest of DELVD of the record r, whose keys stand at `at` of its part.
+fn delete_known(
+    base: &[u8],
+    e: Entry,
+    r: RecordNo,
+    part: &[u8],
+    at: [usize; 4],
+    owners: [Part; 4],
+) -> Planned
+    requires { ⌜ PointsIn e (length (now base)) ⌝ }
+    requires { ⌜ KeysIn e at (length (now part)) ⌝ }
+    requires { ⌜ OwnersIn e owners (length (now base)) ⌝ }
+    requires { ⌜ InSet e (r .0) ⌝ }
+    ensures { λ p. ⌜ p .status ≡ cond (damaged (now (base .entry)) e (now (part .entry)) at owners (ownLinks (now (base .entry)) e (r .0))) Damg Done ⌝ }
+    ensures { λ p. ⌜ (p .status ≡ Done → Built e owners (ownLinks (now (base .entry)) e (r .0)) (ownLinks (now (base .entry)) e (r .0)) Nothing (r .0) (r .0) (p .plan)) ⌝ }
+    ensures { λ p. ⌜ NoneRefused p ⌝ }
+{
+    let links = links::own_links(base, e, r);
+    if damage::any_damaged(base, e, part, at, owners, links) {
+        return refused(Status::Damg);
+    }
+    let plan = unlinked_plan(e, owners, links, r);
+    Planned {
+        status: Status::Done,
+        plan,
+    }
+}
+
+// An add, once the named path's master m and the referenced record are known: what is left to refuse, or the plan of the new record.
+pub fn add(
+    base: &[u8],
+    t: Schema,
+    e: Entry,
+    area: &[u8],
+    spot: Spot,
+    on: usize,
+    m: RecordNo,
+) -> Planned
+    requires { ⌜ VariableIn t e (length (now base)) ⌝ }
+    requires { ⌜ length (now area) ≡ areaLength e ⌝ }
+    requires { ⌜ SpotIn spot e ⌝ }
+    requires { ⌜ on < e .count ⌝ }
+    requires { ⌜ findOn (now base) t e on (areaKeyOn e (now area) on) ≡ At m ⌝ }
+    ensures { λ r. ⌜ r .status ≡ addStatus (now (base .entry)) t e (now (area .entry)) spot on ⌝ }
+    ensures { λ r. ⌜ (r .status ≡ Done → (planStores (now (base .entry)) e (now (area .entry)) (r .plan) ≡ addStores (now (base .entry)) t e (now (area .entry)) spot on (lowestFree (now (base .entry)) e)) × PlanOk (length (now (base .entry))) e (r .plan) × (r .plan .target .0 ≡ lowestFree (now (base .entry)) e) × (r .plan .head ≡ Variable)) ⌝ }
+    ensures { λ r. ⌜ NoneRefused r ⌝ }
+{
+    let at = search::area_places(e);
+    let found = search::all_owners(base, t, e, area, at, on, m, Status::Mrnf);
+    let status = found.status;
+    if status.number() != 0 {
+        return refused(status);
+    }
+    let owners = found.parts;
+    add_known(base, e, area, at, owners, spot, on)
+}
+
+// DELVD of the record r, once it and the named path's master m are known.
+pub fn delete(base: &[u8], t: Schema, e: Entry, r: RecordNo, on: usize, m: RecordNo) -> Planned
+    requires { ⌜ VariableIn t e (length (now base)) ⌝ }
+    requires { ⌜ InSet e (r .0) ⌝ }
+    requires { ⌜ on < e .count ⌝ }
+    requires { ⌜ findOn (now base) t e on (keyOn (now base) e (r .0) (pathOf e on)) ≡ At m ⌝ }
+    ensures { λ p. ⌜ p .status ≡ delStatus (now (base .entry)) t e (r .0) on ⌝ }
+    ensures { λ p. ⌜ (p .status ≡ Done → ((area : List ℕ) → planStores (now (base .entry)) e area (p .plan) ≡ delStores (now (base .entry)) t e (r .0)) × PlanOk (length (now (base .entry))) e (p .plan) × (p .plan .head ≡ Nothing)) ⌝ }
+    ensures { λ p. ⌜ NoneRefused p ⌝ }
+{
+    let part = record_of(base, e, r);
+    let at = search::record_places(e);
+    let found = search::all_owners(base, t, e, part, at, on, m, Status::Damg);
+    let status = found.status;
+    if status.number() != 0 {
+        return refused(status);
+    }
+    let owners = found.parts;
+    delete_known(base, e, r, part, at, owners)
+}

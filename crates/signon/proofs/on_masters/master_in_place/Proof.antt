@@ -1,0 +1,81 @@
+-- `signon::homes::master_in_place` meets its contract, test by test.
+use denote.Ref.{now}
+use Rattle.signon.specs.HomeLaws.{place-blank, place-lost, place-next, place-prior}
+use borrow.Author.Needs.{needs}
+use Rattle.signon.proofs.on_masters.master_in_place.Statement.{statement}
+use Rattle.signon.proofs.on_masters.master_in_place.Tie as tie
+
+cast-key-in : tie.Need-cast-key-in
+cast-key-in c = search needs
+
+key-in-requires : tie.Need-key-in-requires
+key-in-requires c κs = search needs
+
+is-blank-requires : tie.Need-is-blank-requires
+is-blank-requires c κs = search needs
+
+returns : tie.Need-returns
+returns c =
+    let s = c .before in
+    let k = s .before in
+    let a = k .before .before .before .args in
+    place-blank (now (a .base)) (a .e) (a .r .0) (k .key-in .ensures .0) (s .is-blank .ensures) (c .if1 .taken)
+
+find-requires : tie.Need-find-requires
+find-requires c κs = search needs
+
+found-at-requires : tie.Need-found-at-requires
+found-at-requires c κs = search needs
+
+returns-2 : tie.Need-returns-2
+returns-2 c =
+    let o = c .before in
+    let f = o .before in
+    let s = f .before .before in
+    let k = s .before in
+    let a = k .before .before .before .args in
+    place-lost (now (a .base)) (a .e) (a .r .0) (k .key-in .ensures .0) (s .is-blank .ensures) (f .before .if1 .left) (f .find .ensures .0) (o .found-at .ensures) (c .if2 .taken)
+
+next-answers-requires : tie.Need-next-answers-requires
+next-answers-requires c κs = search needs
+
+returns-3 : tie.Need-returns-3
+returns-3 c =
+    let n = c .before in
+    let o = n .before .before in
+    let f = o .before in
+    let s = f .before .before in
+    let k = s .before in
+    let a = k .before .before .before .args in
+    place-next (now (a .base)) (a .e) (a .r .0) (k .key-in .ensures .0) (s .is-blank .ensures) (f .before .if1 .left) (f .find .ensures .0) (o .found-at .ensures)
+    (n .before .if2 .left) (n .next-answers .ensures) (c .if3 .taken)
+
+prior-ends-requires : tie.Need-prior-ends-requires
+prior-ends-requires c κs = search needs
+
+returns-4 : tie.Need-returns-4
+returns-4 c =
+    let n = c .before .before in
+    let o = n .before .before in
+    let f = o .before in
+    let s = f .before .before in
+    let k = s .before in
+    let a = k .before .before .before .args in
+    place-prior (now (a .base)) (a .e) (a .r .0) (k .key-in .ensures .0) (s .is-blank .ensures) (f .before .if1 .left) (f .find .ensures .0) (o .found-at .ensures)
+    (n .before .if2 .left) (n .next-answers .ensures) (c .before .if3 .left) (c .prior-ends .ensures)
+
+pub master-in-place-spec : {M : Type 1} → statement M
+master-in-place-spec =
+    tie.close
+    (tie.spec
+    cast-key-in
+    key-in-requires
+    is-blank-requires
+    returns
+    find-requires
+    found-at-requires
+    returns-2
+    next-answers-requires
+    returns-3
+    prior-ends-requires
+    returns-4)

@@ -1,0 +1,69 @@
+-- `signon::homes::masters_in_place` meets its contract. The invariant: the masters passed are in place.
+use Prim.Native.Nat.{_+_, _-_, _≤_}
+use mathlib.Core.Path.{_≡_}
+use mathlib.Core.Bool.{true}
+use denote.Ref.{now}
+use Rattle.octets.specs.Below.{allBelow}
+use Rattle.sound.specs.Linear.{mastersInPlace}
+use Rattle.clean.specs.CleanLaws.{passes, fails, ends}
+use Rattle.signon.specs.Judged.{inPlaceAt}
+use borrow.Author.Needs.{needs}
+use Rattle.signon.proofs.on_masters.masters_in_place.Statement.{statement}
+use Rattle.signon.proofs.on_masters.masters_in_place.Tie as tie
+
+abbrev Inv-loop : tie.InvT-loop
+Inv-loop base e n k₀ k = (k ≤ e .records) × (allBelow (λ j. inPlaceAt base e (j + 1)) k ≡ true)
+
+abbrev μ-loop : tie.MeasureT-loop
+μ-loop base e n k₀ k = n - k
+
+loop-holds : tie.Need-loop-holds Inv-loop μ-loop
+unfolding allBelow
+loop-holds c = search needs
+
+add-t6 : tie.Need-add-t6 Inv-loop μ-loop
+add-t6 c = search needs
+
+record-in-place-requires : tie.Need-record-in-place-requires Inv-loop μ-loop
+record-in-place-requires c κs = search needs
+
+returns : tie.Need-returns Inv-loop μ-loop
+unfolding mastersInPlace
+returns c =
+    let l = c .before .before .before in
+    let a = l .before .before .args in
+    fails (λ j. inPlaceAt (now (a .base)) (a .e) (j + 1)) (a .e .records) (l .loop .k) (c .before .before .loop-test .taken) (c .before .record-in-place .ensures) (c .if1 .taken)
+
+add-k : tie.Need-add-k Inv-loop μ-loop
+add-k c = search needs
+
+loop-less : tie.Need-loop-less Inv-loop μ-loop
+loop-less c = search needs
+
+loop-again : tie.Need-loop-again Inv-loop μ-loop
+loop-again c =
+    let l = c .before .before .before in
+    let a = l .before .before .args in
+    (search needs, passes (λ j. inPlaceAt (now (a .base)) (a .e) (j + 1)) (l .loop .k) (c .before .record-in-place .ensures) (c .if1 .left) (l .loop .inv .1))
+
+returns-2 : tie.Need-returns-2 Inv-loop μ-loop
+unfolding mastersInPlace
+returns-2 c =
+    let l = c .before in
+    let a = l .before .before .args in
+    ends (λ j. inPlaceAt (now (a .base)) (a .e) (j + 1)) (a .e .records) (l .loop .k) (l .loop .inv .0) (c .loop-test .left) (l .loop .inv .1)
+
+pub masters-in-place-spec : {M : Type 1} → statement M
+masters-in-place-spec =
+    tie.close
+    (tie.spec
+    Inv-loop
+    μ-loop
+    loop-holds
+    add-t6
+    record-in-place-requires
+    returns
+    add-k
+    loop-less
+    loop-again
+    returns-2)
