@@ -8,10 +8,9 @@ use lib.Dec.{eqb}
 use lib.ListN.{length, getD, take, drop}
 use lib.Seq.{take-take, length-take-le}
 use borrow.Author.Tests.{eq-eqb, eqb-true}
-use borrow.Rule.Slice.PartMut.{putMid}
 use Rattle.octets.specs.Octets.{Bytes, Apart, run, splice, wordAt, wordBytes, setWord, sumOnto}
 use Rattle.octets.specs.SpliceLaws.{length-run, run-splice-out}
-use Rattle.octets.specs.WordLaws.{wordAt-part, wordAt-setWord, wordAt-setWord-other, length-setWord, bytes-setWord, getD-setWord-out, setWord-part, setWord-id}
+use Rattle.octets.specs.WordLaws.{wordAt-part, wordAt-setWord, wordAt-setWord-other, length-setWord, bytes-setWord, getD-setWord-out, setWord-id}
 use Rattle.octets.specs.RunLaws.{sumOnto-word}
 use Rattle.blocks.specs.Blocks.{blockAt, checkAt, checkOf, HasBlock, isSealed, seal}
 
@@ -42,11 +41,6 @@ isSealed-run xs n = rw (wordAt-block xs n) refl
 -- lists that have the same block n agree on its being sealed
 pub isSealed-same : (xs ys : List ℕ) (n : ℕ) → run xs (blockAt n) 512 ≡ run ys (blockAt n) 512 → isSealed xs n ≡ isSealed ys n
 isSealed-same xs ys n e = sym (isSealed-run xs n) ∙ rw e (isSealed-run ys n)
-
--- a store into a block alone is a store into the whole
-pub seal-part : (xs : List ℕ) (n : ℕ) → putMid (blockAt n) 512 xs (setWord (run xs (blockAt n) 512) 508 (checkIn xs n)) ≡ seal xs n
-unfolding seal
-seal-part xs n = setWord-part (blockAt n) 512 xs 508 (checkIn xs n) (omega arith)
 
 -- ---- stores and checks
 

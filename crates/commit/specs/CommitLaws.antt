@@ -14,13 +14,13 @@ use Rattle.plans.specs.Plan.{blocksSealed, storeAll, committed}
 use Rattle.plans.specs.PlanLaws.{length-storeAll}
 use Rattle.plans.specs.PlanOk.{PlanOk}
 use Rattle.plans.specs.Stores.{planStores}
-use Rattle.commit.specs.Touched.{distinct, within, AllWithin, allSealed, sealEach, planBlocks}
+use Rattle.commit.specs.Touched.{distinct, blockWithin, AllWithin, allSealed, sealEach, planBlocks}
 use Rattle.commit.specs.DistinctLaws.{every-distinct, sealEach-distinct}
 use Rattle.commit.specs.TouchedLaws.{blocksSealed-blocks, sealAll-blocks, plan-blocks, plan-within}
 
 module _ (b : List ℕ) (e : Entry) (area : List ℕ) (p : Plan) (ok : LiesIn e (length b)) (k : PlanOk (length b) e p) (ns : List ℕ) (q : ns ≡ distinct (planBlocks e p)) where
   pub touched-within : AllWithin (length b) ns
-  touched-within = rw q (every-distinct (within (length b)) (planBlocks e p) ∙ plan-within (length b) e ok p k)
+  touched-within = rw q (every-distinct (blockWithin (length b)) (planBlocks e p) ∙ plan-within (length b) e ok p k)
 
   pub touched-sealed : allSealed b ns ≡ blocksSealed b (planStores b e area p)
   touched-sealed =

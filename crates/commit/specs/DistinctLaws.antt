@@ -14,7 +14,7 @@ use Rattle.octets.specs.RunLaws.{every-append}
 use Rattle.octets.specs.BelowLaws.{same?}
 use Rattle.blocks.specs.Blocks.{blockAt, isSealed, seal}
 use Rattle.blocks.specs.Laws.{length-seal, bytes-seal, isSealed-seal, isSealed-seal-other, seal-sealed}
-use Rattle.commit.specs.Touched.{isOther, isNew, addNew, addAll, distinct, once, within, AllWithin, sealEach}
+use Rattle.commit.specs.Touched.{isOther, isNew, addNew, addAll, distinct, once, blockWithin, AllWithin, sealEach}
 
 -- ---- each number once
 
@@ -124,7 +124,7 @@ sealEach-addAll : (b ks ns : List ℕ) → Bytes b → AllWithin (length b) ns �
 unfolding sealEach addAll every
 sealEach-addAll b ks [] h w = refl
 sealEach-addAll b ks (n ∷ ns) h w =
-    let t = and-eq-true-iff (within (length b) n) (every (within (length b)) ns) .0 w in
+    let t = and-eq-true-iff (blockWithin (length b) n) (every (blockWithin (length b)) ns) .0 w in
     sealEach-addAll b (addNew ks n) ns h (t .1) ∙ (rw (sealEach-addNew b ks n h (leb-true _ _ (t .0))) refl)
 
 pub sealEach-distinct : (b ns : List ℕ) → Bytes b → AllWithin (length b) ns → sealEach b (distinct ns) ≡ sealEach b ns

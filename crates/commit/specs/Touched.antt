@@ -48,23 +48,23 @@ once (n ∷ ns) = isNew n ns && once ns
 -- ---- blocks
 
 -- block numbers as numbers, and those that a `Blocks` holds
-unfoldable pub plain : List BlockNo → List ℕ
-plain [] = []
-plain (n ∷ ns) = n .0 ∷ plain ns
+unfoldable pub bareNumbers : List BlockNo → List ℕ
+bareNumbers [] = []
+bareNumbers (n ∷ ns) = n .0 ∷ bareNumbers ns
 
 abbrev pub numbersOf : Blocks → List ℕ
-numbersOf s = take (s .count) (plain (s .numbers))
+numbersOf s = take (s .count) (bareNumbers (s .numbers))
 
 -- what is read past a `Blocks`' numbers
 abbrev pub noBlock : BlockNo
 noBlock = record { 0 = 0 }
 
 -- the block lies within n bytes; every block does
-abbrev pub within : ℕ → ℕ → Bool
-within n k = leb (blockAt k + 512) n
+abbrev pub blockWithin : ℕ → ℕ → Bool
+blockWithin n k = leb (blockAt k + 512) n
 
 abbrev pub AllWithin : ℕ → List ℕ → Type 0
-AllWithin n ks = every (within n) ks ≡ true
+AllWithin n ks = every (blockWithin n) ks ≡ true
 
 -- every check is true
 abbrev pub allSealed : List ℕ → List ℕ → Bool

@@ -28,33 +28,33 @@ use Rattle.plans.specs.PlanOk.{HeadOk, PlanOk, AllFit, WordsOk}
 use Rattle.plans.specs.FitLaws.{word-block}
 use Rattle.plans.specs.Stores.{wordsOf, wordStores, headStores, wipedStores, planStores}
 use Rattle.commit.specs.declared.Blocks.{Blocks}
-use Rattle.commit.specs.Touched.{noWord, noBlock, plain, isNew, addNew, addAll, numbersOf, within, AllWithin, allSealed, sealEach, storeBlocks, wordBlocks, headBlocks, wipedBlocks, planBlocks}
+use Rattle.commit.specs.Touched.{noWord, noBlock, bareNumbers, isNew, addNew, addAll, numbersOf, blockWithin, AllWithin, allSealed, sealEach, storeBlocks, wordBlocks, headBlocks, wipedBlocks, planBlocks}
 
 -- ---- the numbers that a `Blocks` holds, one after the other
 
-length-plain : (ns : List BlockNo) → length (plain ns) ≡ length ns
-unfolding plain
+length-plain : (ns : List BlockNo) → length (bareNumbers ns) ≡ length ns
+unfolding bareNumbers
 length-plain [] = refl
 length-plain (n ∷ ns) = ap suc (length-plain ns)
 
-plain-at : (ns : List BlockNo) (i : ℕ) → getD (plain ns) i 0 ≡ getD ns i noBlock .0
-unfolding plain
+plain-at : (ns : List BlockNo) (i : ℕ) → getD (bareNumbers ns) i 0 ≡ getD ns i noBlock .0
+unfolding bareNumbers
 plain-at [] i = refl
 plain-at (n ∷ ns) zero = refl
 plain-at (n ∷ ns) (suc i) = plain-at ns i
 
-plain-set : (ns : List BlockNo) (i : ℕ) (n : BlockNo) → plain (set ns i n) ≡ set (plain ns) i (n .0)
-unfolding plain
+plain-set : (ns : List BlockNo) (i : ℕ) (n : BlockNo) → bareNumbers (set ns i n) ≡ set (bareNumbers ns) i (n .0)
+unfolding bareNumbers
 plain-set [] i n = refl
 plain-set (m ∷ ns) zero n = refl
 plain-set (m ∷ ns) (suc i) n = ap (λ (ks : List ℕ). m .0 ∷ ks) (plain-set ns i n)
 
 module _ (s : Blocks) (whole : length (s .numbers) ≡ 12) (few : s .count ≤ 12) where
   count-blocks : length (numbersOf s) ≡ s .count
-  count-blocks = length-take-le (s .count) (plain (s .numbers)) (omega (arith, length-plain (s .numbers)))
+  count-blocks = length-take-le (s .count) (bareNumbers (s .numbers)) (omega (arith, length-plain (s .numbers)))
 
   block-is : (i : ℕ) → i < s .count → getD (numbersOf s) i 0 ≡ getD (s .numbers) i noBlock .0
-  block-is i h = getD-take (s .count) (plain (s .numbers)) i 0 h ∙ plain-at (s .numbers) i
+  block-is i h = getD-take (s .count) (bareNumbers (s .numbers)) i 0 h ∙ plain-at (s .numbers) i
 
   pub blocks-turn : (f : ℕ → Bool) (i : ℕ) → i < s .count → f (getD (s .numbers) i noBlock .0) ≡ true → every f (drop i (numbersOf s)) ≡ every f (drop (i + 1) (numbersOf s))
   blocks-turn f i h e = every-turn f (numbersOf s) i (omega (arith, count-blocks)) (rw (block-is i h) e)
@@ -66,7 +66,7 @@ module _ (s : Blocks) (whole : length (s .numbers) ≡ 12) (few : s .count ≤ 1
   blocks-end f i h = every-end f (numbersOf s) i (omega (arith, count-blocks))
 
   pub block-within : (n i : ℕ) → AllWithin n (numbersOf s) → i < s .count → blockAt (getD (s .numbers) i noBlock .0) + 512 ≤ n
-  block-within n i w h = rw (block-is i h) at (leb-true (blockAt (getD (numbersOf s) i 0) + 512) n (every-at (within n) (numbersOf s) i w (omega (arith, count-blocks))))
+  block-within n i w h = rw (block-is i h) at (leb-true (blockAt (getD (numbersOf s) i 0) + 512) n (every-at (blockWithin n) (numbersOf s) i w (omega (arith, count-blocks))))
 
   pub seal-turn : (b : List ℕ) (i : ℕ) → i < s .count → sealEach b (drop i (numbersOf s)) ≡ sealEach (seal b (getD (s .numbers) i noBlock .0)) (drop (i + 1) (numbersOf s))
   unfolding sealEach
@@ -78,8 +78,8 @@ module _ (s : Blocks) (whole : length (s .numbers) ≡ 12) (few : s .count ≤ 1
 
 -- one more number, or one that is there
 pub block-added : (s : Blocks) (n : BlockNo) → length (s .numbers) ≡ 12 → s .count < 12 → isNew (n .0) (numbersOf s) ≡ true
-    → take (s .count + 1) (plain (set (s .numbers) (s .count) n)) ≡ addNew (numbersOf s) (n .0)
-block-added s n w l h = rw (h, plain-set, add-one (s .count)) (take-suc-set (plain (s .numbers)) (s .count) (n .0) (omega (arith, length-plain (s .numbers))))
+    → take (s .count + 1) (bareNumbers (set (s .numbers) (s .count) n)) ≡ addNew (numbersOf s) (n .0)
+block-added s n w l h = rw (h, plain-set, add-one (s .count)) (take-suc-set (bareNumbers (s .numbers)) (s .count) (n .0) (omega (arith, length-plain (s .numbers))))
 
 pub block-known : (s : Blocks) (n : ℕ) → isNew n (numbersOf s) ≡ false → numbersOf s ≡ addNew (numbersOf s) n
 block-known s n h = rw h refl
@@ -166,7 +166,7 @@ words-within n [] h k = refl
 words-within n (w ∷ ws) h k = rw (le-leb _ _ (rw (word-block w (k .0)) at (h .0 .whole))) (words-within n ws (h .1) (k .1))
 
 module _ (n : ℕ) (e : Entry) (ok : LiesIn e n) where
-  inside : (r : ℕ) → InSet e r → within n (blockOf e r) ≡ true
+  inside : (r : ℕ) → InSet e r → blockWithin n (blockOf e r) ≡ true
   inside r h = le-leb _ _ (block-inside r ok h)
 
   head-within : (h : Head) (r q : ℕ) → HeadOk h e r q → AllWithin n (headBlocks h e r q)
@@ -189,7 +189,7 @@ module _ (n : ℕ) (e : Entry) (ok : LiesIn e n) where
   pub plan-within : (p : Plan) → PlanOk n e p → AllWithin n (planBlocks e p)
   unfolding planBlocks
   plan-within p k =
-      let f = within n in
+      let f = blockWithin n in
       let hs = headBlocks (p .head) e (p .target .0) (p .other .0) in
       let ws = wordBlocks (wordsOf p) in
       let h : every f hs ≡ true = head-within (p .head) (p .target .0) (p .other .0) (k .head) in

@@ -34,7 +34,7 @@ use Rattle.calls.specs.Outcome.{done, outcome}
 use Rattle.kept_state.specs.Rows.{PathRows}
 use Rattle.master_steps.specs.FindLaws.{find-live}
 use Rattle.point_steps.specs.RowFacts.{row-master}
-use Rattle.condition3.specs.Plain.{setOf, entryIn}
+use Rattle.condition3.specs.Plain.{setIn, entryIn}
 use Rattle.condition3.specs.Readings.{Place, setNo, entryNamed, pathNo, IsPlace, Exists, noPathName}
 use Rattle.condition3.specs.PlaceLaws.{place-path}
 use Rattle.condition3.specs.Shown.{Ready}
@@ -60,7 +60,7 @@ place-rows s b rows g w p = g .stands .paths (setNo (schemaOf s) w) (pathNo (sch
 -- the master is number m of set n
 pub granted : (c : Call) (rows : ℕ → ℕ → List ℕ → List ℕ) (n m : ℕ) → Ready (c .schema) (c .base) rows → n < schemaOf (c .schema) .masters
     → Live (c .base) (entryOf (schemaOf (c .schema)) n) m → masterKey (c .base) (entryOf (schemaOf (c .schema)) n) m ≡ c .key
-    → setOf c < setCount (schemaOf (c .schema)) → length (c .area) ≡ areaLength (entryIn c) → Granted (entryOf (schemaOf (c .schema)) n) m c
+    → setIn c < setCount (schemaOf (c .schema)) → length (c .area) ≡ areaLength (entryIn c) → Granted (entryOf (schemaOf (c .schema)) n) m c
 granted c rows n m g l live k known area =
     let ok = g .world .ok in
     let ms = g .stands .masters n l in

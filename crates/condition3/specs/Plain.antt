@@ -48,11 +48,11 @@ rewritten n area (y ∷ ys) = cond (eqb (y .number) n) (record { number = n; are
 
 -- ---- what the call names
 
-abbrev pub setOf : Call → ℕ
-setOf c = setNamed (schemaOf (c .schema)) (c .name)
+abbrev pub setIn : Call → ℕ
+setIn c = setNamed (schemaOf (c .schema)) (c .name)
 
 abbrev pub entryIn : Call → Entry
-entryIn c = entryOf (schemaOf (c .schema)) (setOf c)
+entryIn c = entryOf (schemaOf (c .schema)) (setIn c)
 
 abbrev pub pathIn : Call → ℕ
 pathIn c = pathNamed (schemaOf (c .schema)) (entryIn c) (c .path)
@@ -62,7 +62,7 @@ pathIn c = pathNamed (schemaOf (c .schema)) (entryIn c) (c .path)
 -- a new point on every path of its set, in the list of its key there: `place` puts it into the named path's list, at the end of the others
 abbrev pub added : Call → ℕ → (Point → List Point → List Point) → Lists → Lists
 added c r place l i j key =
-    cond (eqb i (setOf c) && sameBytes key (areaKeyOn (entryIn c) (c .area) j))
+    cond (eqb i (setIn c) && sameBytes key (areaKeyOn (entryIn c) (c .area) j))
     (cond (eqb j (pathIn c)) (place (record { number = r; area = c .area }) (l i j key)) (l i j key ++ (record { number = r; area = c .area } ∷ [])))
     (l i j key)
 
@@ -71,7 +71,7 @@ atEnd x xs = xs ++ (x ∷ [])
 
 -- the lists of the call's set, each changed by f
 abbrev pub inSetOf : Call → (List Point → List Point) → Lists → Lists
-inSetOf c f l i j key = cond (eqb i (setOf c)) (f (l i j key)) (l i j key)
+inSetOf c f l i j key = cond (eqb i (setIn c)) (f (l i j key)) (l i j key)
 
 abbrev pub stepBy : Operation → Call → ℕ → Lists → Lists
 stepBy Formt c r l = λ i j key. []

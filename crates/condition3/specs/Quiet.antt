@@ -42,7 +42,7 @@ use Rattle.point_steps.specs.Standing.{represents-sound}
 use Rattle.point_steps.specs.AddSteps.{add-storable}
 use Rattle.point_steps.specs.DelSteps.{del-storable}
 use Rattle.point_steps.specs.WriteSteps.{write-storable}
-use Rattle.condition3.specs.Plain.{setOf, entryIn, pathIn}
+use Rattle.condition3.specs.Plain.{setIn, entryIn, pathIn}
 use Rattle.condition3.specs.Shown.{Ready}
 use Rattle.condition3.specs.Calm.{Calm, calm-test, calm-refusal, calm-append, calm-below, mild, others-calm, if-asked}
 use Rattle.condition3.specs.Operations.{Kinds, kinds, one-of, some-add}
@@ -71,7 +71,7 @@ module _ (c : Call) (rows : ℕ → ℕ → List ℕ → List ℕ) (g : Ready (c
   o = operationOf (c .operation)
 
   abbrev n : ℕ
-  n = setOf c
+  n = setIn c
 
   abbrev e : Entry
   e = entryIn c

@@ -32,7 +32,7 @@ use Rattle.schema.specs.Naming.{linkOf}
 use Rattle.kept_state.specs.Rows.{nextNode, priorNode, Mine, PathRows}
 use Rattle.master_steps.specs.FindLaws.{found-live}
 use Rattle.point_steps.specs.Neighbours.{read-quiet, point-cut}
-use Rattle.condition3.specs.Plain.{setOf, entryIn, pathIn}
+use Rattle.condition3.specs.Plain.{setIn, entryIn, pathIn}
 use Rattle.condition3.specs.Shown.{Ready}
 use Rattle.octets.specs.TestLaws.{asked}
 use Rattle.condition3.specs.Passed.{on-points}
@@ -80,7 +80,7 @@ module _ (c : Call) (rows : ℕ → ℕ → List ℕ → List ℕ) (g : Ready (c
   o = operationOf (c .operation)
 
   abbrev n : ℕ
-  n = setOf c
+  n = setIn c
 
   abbrev e : Entry
   e = entryIn c

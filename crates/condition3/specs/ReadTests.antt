@@ -28,7 +28,7 @@ use Rattle.calls.specs.Reply.{givenBy, storesOf}
 use Rattle.schema.specs.Naming.{linkOf}
 use Rattle.calls.specs.Ladder.{wrongKind, generalTests, parameterTests, foundTests, ladder}
 use Rattle.calls.specs.LadderLaws.{Passes, others-pass}
-use Rattle.condition3.specs.Plain.{setOf, entryIn, pathIn}
+use Rattle.condition3.specs.Plain.{setIn, entryIn, pathIn}
 use Rattle.condition3.specs.Outcomes.{climbed}
 
 -- ---- the three operations
@@ -62,10 +62,10 @@ mastersFor c = mastersOn (schemaOf (c .schema)) (entryIn c) (pathIn c)
 
 -- of READM the masters are the named set, of the others those of the named path
 abbrev pub masterScene : Call → Scene
-masterScene c = sceneOn (schemaOf (c .schema)) Readm (setOf c) (entryIn c) (pathIn c) (pathFor c) (entryIn c) c
+masterScene c = sceneOn (schemaOf (c .schema)) Readm (setIn c) (entryIn c) (pathIn c) (pathFor c) (entryIn c) c
 
 abbrev pub chainScene : Bool → Call → Scene
-chainScene back c = sceneOn (schemaOf (c .schema)) (readOf back) (setOf c) (entryIn c) (pathIn c) (pathFor c) (mastersFor c) c
+chainScene back c = sceneOn (schemaOf (c .schema)) (readOf back) (setIn c) (entryIn c) (pathIn c) (pathFor c) (mastersFor c) c
 
 pub master-scene : (c : Call) → c .operation ≡ text "READM" → sceneOf c ≡ masterScene c
 unfolding sceneUnder
@@ -88,7 +88,7 @@ below-passes a b h = rw (lt-ltb a b h) refl
 pub record Granted (x : Entry) (m : ℕ) (c : Call) : Type 0 where
   pub rules : keepsRules (c .schema) ≡ true
   pub sized : length (c .base) ≡ schemaOf (c .schema) .blocks * 512
-  pub known : setOf c < setCount (schemaOf (c .schema))
+  pub known : setIn c < setCount (schemaOf (c .schema))
   pub area : length (c .area) ≡ areaLength (entryIn c)
   pub keyed : length (c .key) ≡ x .key
   pub told : allBlank (c .key) ≡ false

@@ -30,7 +30,7 @@ use Rattle.kept_state.specs.FreshLaws.{format-represents}
 use Rattle.master_steps.specs.MasterStep.{MasterStep}
 use Rattle.master_steps.specs.MasterSteps.{add-master-step, del-master-step, write-master-step}
 use Rattle.point_steps.specs.FollowLaws.{master-step-keeps}
-use Rattle.condition3.specs.Plain.{Lists, before, behind, setOf, pathIn, atEnd, stepBy, step}
+use Rattle.condition3.specs.Plain.{Lists, before, behind, setIn, pathIn, atEnd, stepBy, step}
 use Rattle.condition3.specs.Shown.{Ready}
 use Rattle.condition3.specs.ShownLaws.{shown-append, before-shown, behind-shown}
 use Rattle.condition3.specs.Outcomes.{done-is, done-rungs}
@@ -55,7 +55,7 @@ module _ (c : Call) (rows : AllRows) (g : Ready (c .schema) (c .base) rows) wher
   o = operationOf (c .operation)
 
   abbrev n : ℕ
-  n = setOf c
+  n = setIn c
 
   abbrev j : ℕ
   j = pathIn c

@@ -21,7 +21,7 @@ use Rattle.calls.specs.Reply.{orNone, given, referenceAfter, areaAfter, storesO
 use Rattle.calls.specs.Ladder.{wrongKind, generalTests, parameterTests, foundTests, finalTests, ladder}
 use Rattle.calls.specs.LadderLaws.{Passes, others-pass}
 use Rattle.calls.specs.Outcome.{done, outcome}
-use Rattle.condition3.specs.Plain.{setOf, entryIn}
+use Rattle.condition3.specs.Plain.{setIn, entryIn}
 use Rattle.condition3.specs.Outcomes.{climbed, outcome-done, Gives}
 
 pub rdnxt-asks : operationOf (text "RDNXT") ≡ Rdnxt
@@ -41,7 +41,7 @@ module _ (x : Scene) (c : Call) (q : x .operation ≡ Rdnxt) where
 -- ---- the call
 
 module _ (c : Call) (q : operationOf (c .operation) ≡ Rdnxt) (rules : keepsRules (c .schema) ≡ true) (sized : length (c .base) ≡ 512 * schemaOf (c .schema) .blocks)
-    (known : setOf c < setCount (schemaOf (c .schema))) (lent : length (c .area) ≡ areaLength (entryIn c)) (within : c .reference ≤ entryIn c .records) where
+    (known : setIn c < setCount (schemaOf (c .schema))) (lent : length (c .area) ≡ areaLength (entryIn c)) (within : c .reference ≤ entryIn c .records) where
   operation-here : sceneOf c .operation ≡ Rdnxt
   unfolding sceneUnder
   operation-here = q

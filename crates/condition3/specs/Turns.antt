@@ -29,7 +29,7 @@ use Rattle.point_steps.specs.RowFacts.{row-in-set}
 use Rattle.point_steps.specs.AddSteps.{rowsAdded, add-point-step, add-area, add-keeps, add-new}
 use Rattle.point_steps.specs.DelSteps.{del-point-step, del-keeps}
 use Rattle.point_steps.specs.WriteSteps.{write-point-step, write-keeps, write-area}
-use Rattle.condition3.specs.Plain.{Point, Lists, takenOut, rewritten, setOf, entryIn, pathIn, added, inSetOf}
+use Rattle.condition3.specs.Plain.{Point, Lists, takenOut, rewritten, setIn, entryIn, pathIn, added, inSetOf}
 use Rattle.condition3.specs.Shown.{pointOf, shown, Ready}
 use Rattle.condition3.specs.ShownLaws.{shown-same, shown-append, taken-shown, rewritten-shown}
 
@@ -97,7 +97,7 @@ module _ (c : Call) (rows : AllRows) (g : Ready (c .schema) (c .base) rows) wher
   b = c .base
 
   abbrev n : ℕ
-  n = setOf c
+  n = setIn c
 
   abbrev e : Entry
   e = entryIn c

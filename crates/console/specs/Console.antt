@@ -13,7 +13,7 @@ use Rattle.terms.specs.Status.{statusNumber, statusCode}
 use Rattle.terms.specs.Operation.{operationOf}
 use Rattle.calls.specs.Call.{Call, Outcome, callOf, oneOf, reads}
 use Rattle.calls.specs.Outcome.{outcome}
-use Rattle.console.specs.Lines.{endOf, fieldOf, isName, nameIn, isPart, partOf}
+use Rattle.console.specs.Lines.{endOf, fieldOf, isName, nameIn, isPart, givenPart}
 use Rattle.console.specs.References.{decimal, isReference, referenceOf, written}
 
 -- ---- a line that is a call
@@ -44,12 +44,12 @@ abbrev pub ownArea : List ℕ
 ownArea = zeros 8
 
 abbrev pub areaFor : List ℕ → List ℕ → List ℕ
-areaFor operation f = cond (isRead operation) ownArea (partOf f)
+areaFor operation f = cond (isRead operation) ownArea (givenPart f)
 
 -- the call that a line makes
 abbrev pub callIn : List ℕ → List ℕ → List ℕ → Call
 callIn line schema base =
-    callOf (fieldOf line 0) (nameIn 4 (fieldOf line 1)) (referenceOf (fieldOf line 2)) (nameIn 8 (fieldOf line 3)) (partOf (fieldOf line 4))
+    callOf (fieldOf line 0) (nameIn 4 (fieldOf line 1)) (referenceOf (fieldOf line 2)) (nameIn 8 (fieldOf line 3)) (givenPart (fieldOf line 4))
     (areaFor (fieldOf line 0) (fieldOf line 5)) schema base
 
 -- "A program formats this store": the call that it makes before line 1, which looks at schema and data base alone

@@ -14,7 +14,7 @@ use Rattle.terms.specs.declared.Status.{Status}
 use Rattle.terms.specs.Status.{statusCode}
 use Rattle.calls.specs.Call.{Call, callOf}
 use Rattle.calls.specs.Outcome.{IsOutcome}
-use Rattle.console.specs.Lines.{fieldOf, isDash, isName, nameIn, isPart, partOf}
+use Rattle.console.specs.Lines.{fieldOf, isDash, isName, nameIn, isPart, givenPart}
 use Rattle.console.specs.References.{isDigit, decimalOf, spellsFour, isDecimal, isReference, referenceOf, decimal, written}
 use Rattle.console.specs.PrinterLaws.{stays-behind}
 use Rattle.console.specs.Console.{fieldsMade, wellMade, isRead, ownArea, areaFor, callIn, recordGiven, unmade, RestStays, Replied, replyTo, responded}
@@ -100,7 +100,7 @@ replied number n at op was out more shown h e k rest fits m stays later =
     }
 
 -- an area of a line is no longer than the line
-pub part-short : (line : List ℕ) (k : ℕ) → length (partOf (fieldOf line k)) ≤ length line
+pub part-short : (line : List ℕ) (k : ℕ) → length (givenPart (fieldOf line k)) ≤ length line
 part-short line k = go (isDash (fieldOf line k))
   where
     go : (t : Bool) → length (cond t [] (fieldOf line k)) ≤ length line
@@ -113,7 +113,7 @@ module _ (number : ℕ) (line schema base op set path key : List ℕ) (reference
     (es : set ≡ nameIn 4 (fieldOf line 1))
     (er : reference ≡ referenceOf (fieldOf line 2))
     (ep : path ≡ nameIn 8 (fieldOf line 3))
-    (ek : key ≡ partOf (fieldOf line 4)) where
+    (ek : key ≡ givenPart (fieldOf line 4)) where
   asked-as : (area : List ℕ) → area ≡ areaFor (fieldOf line 0) (fieldOf line 5) → {n : ℕ} {was out kept : List ℕ}
       → Replied n was out kept (replyTo number op (callOf op set reference path key area schema base))
       → Replied n was out kept (replyTo number (fieldOf line 0) (callIn line schema base))
@@ -124,7 +124,7 @@ module _ (number : ℕ) (line schema base op set path key : List ℕ) (reference
       → Replied n was out kept (replyTo number (fieldOf line 0) (callIn line schema base))
   asked-read i h = asked-as ownArea (rw (← eo, i) refl) h
 
-  pub asked-act : isRead op ≡ false → (area : List ℕ) → area ≡ partOf (fieldOf line 5) → {n : ℕ} {was out kept : List ℕ}
+  pub asked-act : isRead op ≡ false → (area : List ℕ) → area ≡ givenPart (fieldOf line 5) → {n : ℕ} {was out kept : List ℕ}
       → Replied n was out kept (replyTo number op (callOf op set reference path key area schema base))
       → Replied n was out kept (replyTo number (fieldOf line 0) (callIn line schema base))
   asked-act i area ea h = asked-as area (rw (← eo, i) ea) h

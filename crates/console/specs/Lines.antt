@@ -45,5 +45,5 @@ nameIn n f = cond (isDash f) (replicate n 32) f
 abbrev pub isPart : List ℕ → Bool
 isPart f = not (eqb (length f) 0)
 
-abbrev pub partOf : List ℕ → List ℕ
-partOf f = cond (isDash f) [] f
+abbrev pub givenPart : List ℕ → List ℕ
+givenPart f = cond (isDash f) [] f

@@ -1,11 +1,11 @@
 -- The program byte by byte: what is kept of a line is enough to answer it.
-use Prim.Native.Nat.{ℕ, _+_, _%_, _<_, min}
-use mathlib.Core.Path.{_≡_, refl, ap, _∙_}
+use Prim.Native.Nat.{ℕ, _+_, _%_, _≤_, _<_, min}
+use mathlib.Core.Path.{_≡_, refl, sym, ap, _∙_}
 use mathlib.Core.List.{List, [], _∷_, _++_}
 use native.Mathlib.Omega.{arith}
 use native.Mathlib.Numerals.{add-one}
 use lib.ListN.{length, getD, take, length-take}
-use lib.Seq.{take-suc}
+use lib.Seq.{take-all, take-suc}
 use borrow.Author.Tests.{eq-eqb, ne-eqb}
 use Rattle.console.specs.Console.{responded, KeptLine}
 use Rattle.console.specs.SmallLaws.{kept-next, kept-enough}
@@ -40,6 +40,13 @@ module _ {s : Stand} {number len : ℕ} {buffer base : List ℕ} (schema : List 
 
   pub no-last-line : length buffer ≡ 129 → len ≡ 0 → base ≡ lastReply schema s .base
   no-last-line f e = rw (eq-eqb (length (s .line)) 0 (omega (arith, kept-length f))) (h .base)
+
+-- whatever is kept of a line, the program stands somewhere: so `Leads` says something of every line, number and data base
+pub stands-somewhere : (n len : ℕ) (buffer b : List ℕ) → len ≤ 129 → (s : Stand) × StandsAt s n len buffer b
+stands-somewhere n len buffer b h = (
+  record { number = n; line = take len buffer; base = b },
+  record { number = refl; line = record { fits = h; bytes = sym (take-all 129 (take len buffer) (omega (arith, length-take len buffer))) }; base = refl },
+)
 
 -- ---- bytes, one after the other
 

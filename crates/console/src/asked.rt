@@ -15,7 +15,7 @@ ghost use mathlib.Core.Bool.{true};
 ghost use Prim.Native.Nat.{_≤_};
 ghost use lib.Dec.{eqb};
 ghost use lib.ListN.{length};
-ghost use Rattle.console.specs.Lines.{fieldOf, isName, nameIn, isPart, partOf};
+ghost use Rattle.console.specs.Lines.{fieldOf, isName, nameIn, isPart, givenPart};
 ghost use Rattle.console.specs.References.{isReference, referenceOf};
 ghost use Rattle.console.specs.Console.{Six, sixFields, fieldsMade};
 
@@ -108,7 +108,7 @@ pub fn path_in(line: &[u8]) -> [u8; 8]
 pub fn part_in(line: &[u8], k: usize) -> &[u8]
     requires { ⌜ Six (now line) ⌝ }
     requires { ⌜ k ≤ 5 ⌝ }
-    ensures { λ r. ⌜ now r ≡ partOf (fieldOf (now (line .entry)) k) ⌝ }
+    ensures { λ r. ⌜ now r ≡ givenPart (fieldOf (now (line .entry)) k) ⌝ }
 {
     part(field(line, k))
 }

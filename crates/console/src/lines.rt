@@ -3,7 +3,7 @@ ghost use mathlib.Core.Path.{_≡_};
 ghost use mathlib.Core.Bool.{true};
 ghost use Prim.Native.Nat.{_+_, _≤_};
 ghost use lib.ListN.{length};
-ghost use Rattle.console.specs.Lines.{endFrom, endOf, startOf, fieldOf, isDash, isName, nameIn, isPart, partOf};
+ghost use Rattle.console.specs.Lines.{endFrom, endOf, startOf, fieldOf, isDash, isName, nameIn, isPart, givenPart};
 
 // Where the field that begins at `at` ends: at the next blank, or at the line's end.
 fn end_from(line: &[u8], at: usize) -> usize
@@ -79,7 +79,7 @@ pub fn is_part(f: &[u8]) -> bool
 
 // A key or an area; "-" is empty.
 pub fn part(f: &[u8]) -> &[u8]
-    ensures { λ r. ⌜ now r ≡ partOf (now (f .entry)) ⌝ }
+    ensures { λ r. ⌜ now r ≡ givenPart (now (f .entry)) ⌝ }
 {
     if is_dash(f) {
         return &f[..0];

@@ -140,9 +140,9 @@ module _ (e : Entry) (area : List ℕ) where
   unfolding blankAreaKey
   blank-master m = rw m refl
 
-  pub other-master : (on : ℕ) (key : List ℕ) → isMaster e ≡ true → otherAreaKey e on key area ≡ not (sameBytes (areaMasterKey e area) key)
+  pub other-master-key : (on : ℕ) (key : List ℕ) → isMaster e ≡ true → otherAreaKey e on key area ≡ not (sameBytes (areaMasterKey e area) key)
   unfolding otherAreaKey
-  other-master on key m = rw m refl
+  other-master-key on key m = rw m refl
 
   pub other-path : (on : ℕ) (key : List ℕ) → isMaster e ≡ false → otherAreaKey e on key area ≡ not (sameBytes (areaKeyOn e area on) key)
   unfolding otherAreaKey

@@ -12,14 +12,14 @@ use Rattle.schema.specs.declared.Entry.{Entry}
 use Rattle.schema.specs.declared.Stretch.{Stretch}
 use Rattle.schema.specs.Place.{LiesIn, stretchFrom, stretchOf}
 use Rattle.schema.specs.PlaceLaws.{few-held, stretch-along}
-use Rattle.masters.specs.Scans.{asked, wanted, wantedIn}
+use Rattle.masters.specs.Scans.{isWanted, wanted, wantedIn}
 
 -- the code's test
-pub asked-is : (live l : Bool) → Bool·beq l live ≡ asked live l
-asked-is true true = refl
-asked-is true false = refl
-asked-is false true = refl
-asked-is false false = refl
+pub wanted-is : (live l : Bool) → Bool·beq l live ≡ isWanted live l
+wanted-is true true = refl
+wanted-is true false = refl
+wanted-is false true = refl
+wanted-is false false = refl
 
 -- ---- lowestFrom in pieces: with m numbers tried, n are left
 

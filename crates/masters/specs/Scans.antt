@@ -8,13 +8,13 @@ use Rattle.schema.specs.declared.Entry.{Entry}
 use Rattle.records.specs.Records.{isLive}
 
 -- is a record that is live, or is not, one that is asked for: a live one, or a free one?
-abbrev pub asked : Bool → Bool → Bool
-asked true live = live
-asked false live = not live
+abbrev pub isWanted : Bool → Bool → Bool
+isWanted true live = live
+isWanted false live = not live
 
 -- the record r; and record j of those that lie one behind the other, `size` bytes each
 abbrev pub wanted : Bool → List ℕ → Entry → ℕ → Bool
-wanted live b e r = asked live (isLive b e r)
+wanted live b e r = isWanted live (isLive b e r)
 
 abbrev pub wantedIn : Bool → List ℕ → ℕ → ℕ → Bool
-wantedIn live records size j = asked live (eqb (byteAt records (j * size)) 1)
+wantedIn live records size j = isWanted live (eqb (byteAt records (j * size)) 1)

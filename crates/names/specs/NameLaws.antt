@@ -16,13 +16,13 @@ use Rattle.terms.specs.Terms.{linkRef}
 use Rattle.schema.specs.declared.Schema.{Schema}
 use Rattle.schema.specs.Decode.{entryOf, setCount}
 use Rattle.schema.specs.Guarantee.{SchemaOk}
-use Rattle.names.specs.Names.{OnMasters}
+use Rattle.names.specs.Names.{LeadsToMasters}
 
 -- every set of a schema is so: a master has no paths, and a variable's lead to masters
-pub on-masters : (t : Schema) → SchemaOk t → (i : ℕ) → i < setCount t → OnMasters t (entryOf t i)
-on-masters t ok i l = go (ltb i (t .masters)) refl
+pub leads-to-masters : (t : Schema) → SchemaOk t → (i : ℕ) → i < setCount t → LeadsToMasters t (entryOf t i)
+leads-to-masters t ok i l = go (ltb i (t .masters)) refl
   where
-    go : (b : Bool) → ltb i (t .masters) ≡ b → OnMasters t (entryOf t i)
+    go : (b : Bool) → ltb i (t .masters) ≡ b → LeadsToMasters t (entryOf t i)
     go true h =
         let m = ok .master i (ltb-true i (t .masters) h) in
         record { few = omega (arith, m .none); four = ok .set i l .four; named = λ j k. absurd (omega (arith, m .none)) }
@@ -46,9 +46,9 @@ Name w xx = wordBytes w ++ (text "LK" ++ xx)
 pub other-length : (w : ℕ) (xx name : List ℕ) → length xx ≡ 2 → (length name ≡ 8 → ⊥) → sameBytes (Name w xx) name ≡ false
 other-length w xx name h k = same-lengths (Name w xx) name (λ e. k (omega arith))
 
-pub other-master : (w : ℕ) (xx name : List ℕ) → w < 4294967296 → (w ≡ wordAt name 0 → ⊥) → sameBytes (Name w xx) name ≡ false
+pub other-master-name : (w : ℕ) (xx name : List ℕ) → w < 4294967296 → (w ≡ wordAt name 0 → ⊥) → sameBytes (Name w xx) name ≡ false
 unfolding wordAt
-other-master w xx name l h = ne-sameBytes (Name w xx) name (λ e. h (sym (word4-bytes w l) ∙ ap (λ (z : List ℕ). wordAt z 0) e))
+other-master-name w xx name l h = ne-sameBytes (Name w xx) name (λ e. h (sym (word4-bytes w l) ∙ ap (λ (z : List ℕ). wordAt z 0) e))
 
 -- two letters, and the letters of a link
 twos : (xs : List ℕ) → length xs ≡ 2 → xs ≡ getD xs 0 0 ∷ getD xs 1 0 ∷ []

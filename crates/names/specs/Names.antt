@@ -13,7 +13,7 @@ pub record Named (t : Schema) (p : Path) : Type 0 where
   pub letters : length (p .letters) ≡ 2
   pub eight : length (t .entries) ≡ 8
 
-pub record OnMasters (t : Schema) (e : Entry) : Type 0 where
+pub record LeadsToMasters (t : Schema) (e : Entry) : Type 0 where
   pub few : e .count ≤ 4
   pub four : length (e .paths) ≡ 4
   pub named : (j : ℕ) → j < e .count → Named t (pathOf e j)

@@ -9,7 +9,7 @@ ghost use lib.ListN.{length};
 ghost use Rattle.octets.specs.Octets.{sameBytes};
 ghost use Rattle.schema.specs.Guarantee.{SchemaOk};
 ghost use Rattle.schema.specs.Naming.{setNamed, pathName, pathNamed};
-ghost use Rattle.names.specs.Names.{OnMasters, Named};
+ghost use Rattle.names.specs.Names.{LeadsToMasters, Named};
 
 // The number of the set of that name; the number of sets where there is none.
 pub fn set_named(t: Schema, name: &[u8]) -> EntryNo
@@ -40,7 +40,7 @@ fn is_named(t: Schema, p: Path, name: &[u8]) -> bool
 
 // The number of the path of that name in the set; its path count where there is none.
 pub fn path_named(t: Schema, e: Entry, name: &[u8]) -> usize
-    requires { ⌜ OnMasters t e ⌝ }
+    requires { ⌜ LeadsToMasters t e ⌝ }
     ensures { λ j. ⌜ j ≡ pathNamed t e (now (name .entry)) ⌝ }
 {
     let n = e.count as usize;

@@ -80,7 +80,7 @@ both-done s more h = go (isDone s) refl h
 -- ---- the loop over the paths
 
 -- path k's master is there
-pub record Held (b : List ℕ) (t : Schema) (e : Entry) (key : ℕ → List ℕ) (k : ℕ) : Type 0 where
+pub record HasMaster (b : List ℕ) (t : Schema) (e : Entry) (key : ℕ → List ℕ) (k : ℕ) : Type 0 where
   pub master : RecordNo
   pub found : findOn b t e k (key k) ≡ At master
 
@@ -124,13 +124,13 @@ module _ (b : List ℕ) (t : Schema) (e : Entry) (on : ℕ) (absent : Status) (k
 
   -- ---- where all are found
 
-  held : (f : Found) → isDone absent ≡ false → masterStatus absent f ≡ Done → (k : ℕ) → foundOn k ≡ f → Held b t e key k
+  held : (f : Found) → isDone absent ≡ false → masterStatus absent f ≡ Done → (k : ℕ) → foundOn k ≡ f → HasMaster b t e key k
   held (At r) a h k q = record { master = r; found = q }
   held Missing a h k q = absurd (never-both (isDone absent) (ap isDone h) a)
   held Damaged a h k q = absurd (let z : _≡_ {A = ℕ} 0 1 = cc in omega arith)
 
   pub others-held : (n : ℕ) (m : RecordNo) → isDone absent ≡ false → otherMasters b t e on absent key n ≡ Done → findOn b t e on (key on) ≡ At m
-      → (k : ℕ) → k < n → Held b t e key k
+      → (k : ℕ) → k < n → HasMaster b t e key k
   unfolding otherMasters
   others-held zero m a h named k l = absurd (omega arith)
   others-held (suc n) m a h named k l =
@@ -138,7 +138,7 @@ module _ (b : List ℕ) (t : Schema) (e : Entry) (on : ℕ) (absent : Status) (k
       let w : k ≤ n = omega arith in
       ⊎-elim (λ q. this (eqb n on) refl (d .1) q) (λ q. others-held n m a (d .0) named k q) (eq-or-lt-of-le w)
     where
-      this : (o : Bool) → eqb n on ≡ o → cond o Done (masterStatus absent (foundOn n)) ≡ Done → k ≡ n → Held b t e key k
+      this : (o : Bool) → eqb n on ≡ o → cond o Done (masterStatus absent (foundOn n)) ≡ Done → k ≡ n → HasMaster b t e key k
       this true p i q = let r : k ≡ on = q ∙ eqb-true n on p in record { master = m; found = rw r named }
       this false p i q = rw q (held (foundOn n) a i n refl)
 

@@ -31,14 +31,14 @@ use Rattle.point_plans.specs.Rest.{masterStatus}
 -- ---- the masters
 
 -- no part: what stands for a master that was not found, and past an array's end
-abbrev pub nowhere : Part
-nowhere = record { at = 0; size = 0 }
+abbrev pub noPart : Part
+noPart = record { at = 0; size = 0 }
 
 -- where the record of the masters x that was found lies
 abbrev pub foundPart : Entry → Found → Part
 foundPart x (At m) = partOf x (m .0)
-foundPart x Missing = nowhere
-foundPart x Damaged = nowhere
+foundPart x Missing = noPart
+foundPart x Damaged = noPart
 
 abbrev pub ownerOf : Status → Entry → Found → Owner
 ownerOf absent x f = record { status = masterStatus absent f; part = foundPart x f }
@@ -48,7 +48,7 @@ ownerOn b t e key k = foundPart (mastersOn t e k) (findOn b t e k (key k))
 
 -- the bytes of path k's master
 abbrev pub masterAt : List ℕ → List Part → ℕ → List ℕ
-masterAt b owners k = bytesOf b (getD owners k nowhere)
+masterAt b owners k = bytesOf b (getD owners k noPart)
 
 -- ---- keys and neighbours
 
@@ -107,7 +107,7 @@ abbrev pub sideWords : Entry → Path → Part → Link → Link → List Word
 sideWords e p m l v = priorWord e p m (l .prior) (v .next) ∷ nextWord e p m (l .next) (v .prior) ∷ []
 
 abbrev pub wordsOn : Entry → List Part → List Link → List Link → ℕ → List Word
-wordsOn e owners links values k = sideWords e (pathOf e k) (getD owners k nowhere) (getD links k noLink) (getD values k noLink)
+wordsOn e owners links values k = sideWords e (pathOf e k) (getD owners k noPart) (getD links k noLink) (getD values k noLink)
 
 -- those of the first n paths
 abbrev pub wordsBelow : Entry → List Part → List Link → List Link → ℕ → List Word

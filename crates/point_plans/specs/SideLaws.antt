@@ -35,10 +35,10 @@ use Rattle.masters.specs.FindLaws.{find-at}
 use Rattle.points.specs.Chains.{priorSide, nextSide}
 use Rattle.points.specs.Points.{findOn, masterOn, damagedOn}
 use Rattle.point_plans.specs.Rest.{otherMasters}
-use Rattle.point_plans.specs.Paths.{nowhere, ownerOn, masterAt, keyAt, cleanAt, damaged, sideWords, wordsOn, wordsBelow}
+use Rattle.point_plans.specs.Paths.{noPart, ownerOn, masterAt, keyAt, cleanAt, damaged, sideWords, wordsOn, wordsBelow}
 use Rattle.point_plans.specs.Within.{OwnersIn, LinkIn}
 use Rattle.records.specs.InBase.{VariableIn}
-use Rattle.point_plans.specs.PathLaws.{Held, others-held, filled-at}
+use Rattle.point_plans.specs.PathLaws.{HasMaster, others-held, filled-at}
 use Rattle.point_plans.specs.DamageLaws.{last-from, uneven-from}
 
 -- ---- stores made path by path
@@ -117,8 +117,8 @@ sidesOn b t e key f g k =
 -- every path's master is there, and `owners` are their records
 pub record Known (b : List ℕ) (t : Schema) (e : Entry) (key : ℕ → List ℕ) (owners : List Part) : Type 0 where
   pub set : VariableIn t e (length b)
-  pub held : (k : ℕ) → k < e .count → Held b t e key k
-  pub owned : (k : ℕ) → k < e .count → getD owners k nowhere ≡ ownerOn b t e key k
+  pub held : (k : ℕ) → k < e .count → HasMaster b t e key k
+  pub owned : (k : ℕ) → k < e .count → getD owners k noPart ≡ ownerOn b t e key k
 
 -- what the search for the other masters leaves where it refuses none: `read` are the keys as they were read
 pub known-of : (b : List ℕ) (t : Schema) (e : Entry) (on : ℕ) (absent : Status) (read key : ℕ → List ℕ) (owners : List Part) (m : RecordNo) → VariableIn t e (length b)
@@ -128,7 +128,7 @@ known-of b t e on absent read key owners m v same a done named filled =
     record {
       set = v;
       held = others-held b t e on absent key (e .count) m a done named;
-      owned = λ k l. filled-at (ownerOn b t e read) owners (e .count) nowhere filled k l ∙ (rw (same k l));
+      owned = λ k l. filled-at (ownerOn b t e read) owners (e .count) noPart filled k l ∙ (rw (same k l));
     }
 
 module _ (b : List ℕ) (t : Schema) (e : Entry) (key : ℕ → List ℕ) (owners : List Part) (known : Known b t e key owners) where
@@ -138,7 +138,7 @@ module _ (b : List ℕ) (t : Schema) (e : Entry) (key : ℕ → List ℕ) (owner
   abbrev m : ℕ → ℕ
   m k = masterOn b t e k (key k)
 
-  owner-is : (k : ℕ) → k < e .count → getD owners k nowhere ≡ partOf (x k) (m k)
+  owner-is : (k : ℕ) → k < e .count → getD owners k noPart ≡ partOf (x k) (m k)
   owner-is k l = known .owned k l ∙ (rw (known .held k l .found))
 
   link-in : (k : ℕ) → k < e .count → pathOf e k .link + 8 ≤ x k .size

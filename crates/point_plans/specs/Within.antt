@@ -12,7 +12,7 @@ use Rattle.records.specs.declared.Link.{Link}
 use Rattle.records.specs.Areas.{noLink}
 use Rattle.points.specs.declared.Spot.{Spot}
 use Rattle.points.specs.declared.Spot.the-variants.{Last, After, Before}
-use Rattle.point_plans.specs.Paths.{nowhere}
+use Rattle.point_plans.specs.Paths.{noPart}
 
 -- the referenced record is of the set
 abbrev pub SpotIn : Spot → Entry → Type 0
@@ -27,7 +27,7 @@ pub record OwnerIn (p : Path) (m : Part) (n : ℕ) : Type 0 where
 
 -- every path's does
 pub record OwnersIn (e : Entry) (owners : List Part) (n : ℕ) : Type 0 where
-  pub owner : (k : ℕ) → k < e .count → OwnerIn (pathOf e k) (getD owners k nowhere) n
+  pub owner : (k : ℕ) → k < e .count → OwnerIn (pathOf e k) (getD owners k noPart) n
 
 -- the paths' keys lie in a buffer of n bytes
 pub record KeysIn (e : Entry) (at : List ℕ) (n : ℕ) : Type 0 where

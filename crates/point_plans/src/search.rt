@@ -27,7 +27,7 @@ ghost use Rattle.masters.specs.declared.Found.the-variants.{At};
 ghost use Rattle.masters.specs.Find.{find};
 ghost use Rattle.points.specs.Points.{findOn};
 ghost use Rattle.point_plans.specs.Rest.{otherMasters};
-ghost use Rattle.point_plans.specs.Paths.{nowhere, ownerOf, ownerOn, keyAt};
+ghost use Rattle.point_plans.specs.Paths.{noPart, ownerOf, ownerOn, keyAt};
 ghost use Rattle.point_plans.specs.Within.{KeysIn};
 ghost use Rattle.records.specs.InBase.{MastersIn, VariableIn};
 
@@ -68,8 +68,8 @@ pub fn record_places(e: Entry) -> [usize; 4]
 }
 
 // No part: what stands for a master that was not found.
-fn nowhere() -> Part
-    ensures { λ p. ⌜ p ≡ nowhere ⌝ }
+fn no_part() -> Part
+    ensures { λ p. ⌜ p ≡ noPart ⌝ }
 {
     Part { at: 0, size: 0 }
 }
@@ -92,11 +92,11 @@ fn owner_among(base: &[u8], x: Entry, p: Path, key: Key, absent: Status) -> Owne
         }
         Found::Missing => Owner {
             status: absent,
-            part: nowhere(),
+            part: no_part(),
         },
         Found::Damaged => Owner {
             status: Status::Damg,
-            part: nowhere(),
+            part: no_part(),
         },
     }
 }
@@ -145,11 +145,11 @@ pub fn all_owners(
     requires { ⌜ findOn (now base) t e on (keyAt (now src) e at on) ≡ At m ⌝ }
     ensures { λ o. ⌜ o .status ≡ otherMasters (now (base .entry)) t e on absent (keyAt (now (src .entry)) e at) (e .count) ⌝ }
     ensures { λ o. ⌜ (o .status ≡ Done → take (e .count) (o .parts) ≡ upto (ownerOn (now (base .entry)) t e (keyAt (now (src .entry)) e at)) (e .count)) ⌝ }
-    ensures { λ o. ⌜ ((o .status ≡ Done → ⊥) → o .parts ≡ replicate 4 nowhere) ⌝ }
-    ensures { λ o. ⌜ drop (e .count) (o .parts) ≡ drop (e .count) (replicate 4 nowhere) ⌝ }
+    ensures { λ o. ⌜ ((o .status ≡ Done → ⊥) → o .parts ≡ replicate 4 noPart) ⌝ }
+    ensures { λ o. ⌜ drop (e .count) (o .parts) ≡ drop (e .count) (replicate 4 noPart) ⌝ }
 {
     let paths = e.count as usize;
-    let none = [nowhere(); 4];
+    let none = [no_part(); 4];
     let mut parts = none;
     let mut k: usize = 0;
     while k < paths {

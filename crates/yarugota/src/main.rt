@@ -12,7 +12,7 @@ ghost use Rattle.console.specs.Console.{Replied, responded};
 ghost use Rattle.console.specs.Session.{Stand, begun, byteTaken, bytesTaken, lastReply, StandsAt, Leads};
 
 // The line that is being read: its number, and how many of its bytes are kept.
-struct Place {
+struct Progress {
     number: u64,
     len: usize,
 }
@@ -40,35 +40,47 @@ fn end_line(number: u64, line: &[u8], schema: &[u8], base: &mut [u8])
 }
 
 // Takes one byte: a newline ends the line, any other byte is kept.
-fn take_byte(place: Place, byte: u8, line: &mut [u8], schema: &[u8], base: &mut [u8]) -> Place
-    requires { ⌜ (length (now line) ≡ 129) × (place .len ≤ 129) ⌝ }
+fn take_byte(
+    progress: Progress,
+    byte: u8,
+    line: &mut [u8],
+    schema: &[u8],
+    base: &mut [u8],
+) -> Progress
+    requires { ⌜ (length (now line) ≡ 129) × (progress .len ≤ 129) ⌝ }
     ensures { λ r. ⌜ r .len ≤ 129 ⌝ }
-    ensures { λ r. ⌜ Leads (λ s. byteTaken (now (schema .entry)) s byte) (place .number) (place .len) (now (line .entry)) (now (base .entry)) (r .number) (r .len) (now (line .exit)) (now (base .exit)) ⌝ }
+    ensures { λ r. ⌜ Leads (λ s. byteTaken (now (schema .entry)) s byte) (progress .number) (progress .len) (now (line .entry)) (now (base .entry)) (r .number) (r .len) (now (line .exit)) (now (base .exit)) ⌝ }
 {
-    let number = place.number;
-    let len = place.len;
+    let number = progress.number;
+    let len = progress.len;
     if byte == 10 {
         end_line(number, &line[..len], schema, base);
         let next = std::num::wrapping_add_u64(number, 1);
-        return Place {
+        return Progress {
             number: next,
             len: 0,
         };
     }
     let more = console::keep(line, len, byte);
-    Place {
+    Progress {
         number: number,
         len: more,
     }
 }
 
 // Takes the bytes of one read.
-fn take_bytes(place: Place, bytes: &[u8], line: &mut [u8], schema: &[u8], base: &mut [u8]) -> Place
-    requires { ⌜ (length (now line) ≡ 129) × (place .len ≤ 129) ⌝ }
+fn take_bytes(
+    progress: Progress,
+    bytes: &[u8],
+    line: &mut [u8],
+    schema: &[u8],
+    base: &mut [u8],
+) -> Progress
+    requires { ⌜ (length (now line) ≡ 129) × (progress .len ≤ 129) ⌝ }
     ensures { λ r. ⌜ r .len ≤ 129 ⌝ }
-    ensures { λ r. ⌜ Leads (λ s. bytesTaken (now (schema .entry)) s (now (bytes .entry))) (place .number) (place .len) (now (line .entry)) (now (base .entry)) (r .number) (r .len) (now (line .exit)) (now (base .exit)) ⌝ }
+    ensures { λ r. ⌜ Leads (λ s. bytesTaken (now (schema .entry)) s (now (bytes .entry))) (progress .number) (progress .len) (now (line .entry)) (now (base .entry)) (r .number) (r .len) (now (line .exit)) (now (base .exit)) ⌝ }
 {
-    let mut at = place;
+    let mut at = progress;
     let mut i = 0;
     while i < bytes.len() {
         at = take_byte(at, bytes[i], line, schema, base);
@@ -79,54 +91,54 @@ fn take_bytes(place: Place, bytes: &[u8], line: &mut [u8], schema: &[u8], base: 
 
 // What one read brought.
 struct Turn {
-    place: Place,
+    progress: Progress,
     more: bool,
 }
 
 // Reads once, and takes the bytes that it has read, whichever they are.
-fn read_once(place: Place, line: &mut [u8], schema: &[u8], base: &mut [u8]) -> Turn
-    requires { ⌜ (length (now line) ≡ 129) × (place .len ≤ 129) ⌝ }
-    ensures { λ r. ⌜ r .place .len ≤ 129 ⌝ }
-    ensures { λ r. ⌜ ((bytes : List ℕ) × (r .more ≡ not (eqb (length bytes) 0)) × Leads (λ s. bytesTaken (now (schema .entry)) s bytes) (place .number) (place .len) (now (line .entry)) (now (base .entry)) (r .place .number) (r .place .len) (now (line .exit)) (now (base .exit))) ⌝ }
+fn read_once(progress: Progress, line: &mut [u8], schema: &[u8], base: &mut [u8]) -> Turn
+    requires { ⌜ (length (now line) ≡ 129) × (progress .len ≤ 129) ⌝ }
+    ensures { λ r. ⌜ r .progress .len ≤ 129 ⌝ }
+    ensures { λ r. ⌜ ((bytes : List ℕ) × (r .more ≡ not (eqb (length bytes) 0)) × Leads (λ s. bytesTaken (now (schema .entry)) s bytes) (progress .number) (progress .len) (now (line .entry)) (now (base .entry)) (r .progress .number) (r .progress .len) (now (line .exit)) (now (base .exit))) ⌝ }
 {
     let mut buffer = io::buffer();
     let got = libc::read(0, &mut buffer);
     let n = io::count(got, &buffer);
     let more = n != 0;
-    let next = take_bytes(place, &buffer[..n], line, schema, base);
+    let next = take_bytes(progress, &buffer[..n], line, schema, base);
     Turn {
-        place: next,
+        progress: next,
         more: more,
     }
 }
 
 // Reads to the end of the input. A proved loop has to end, and nothing says that the input does: so it counts its turns down, from a
 // number that no run uses up.
-fn read_all(line: &mut [u8], schema: &[u8], base: &mut [u8]) -> Place
+fn read_all(line: &mut [u8], schema: &[u8], base: &mut [u8]) -> Progress
     requires { ⌜ length (now line) ≡ 129 ⌝ }
     ensures { λ r. ⌜ r .len ≤ 129 ⌝ }
     ensures { λ r. ⌜ ((bytes : List ℕ) × StandsAt (bytesTaken (now (schema .entry)) (begun (now (base .entry))) bytes) (r .number) (r .len) (now (line .exit)) (now (base .exit))) ⌝ }
 {
-    let mut place = Place { number: 1, len: 0 };
+    let mut progress = Progress { number: 1, len: 0 };
     let mut turns = u64::MAX;
     while 0 < turns {
-        let t = read_once(place, line, schema, base);
-        place = t.place;
+        let t = read_once(progress, line, schema, base);
+        progress = t.progress;
         if !t.more {
-            return place;
+            return progress;
         }
         turns -= 1;
     }
-    place
+    progress
 }
 
 // A last line without newline counts; nothing after the last newline is no line.
-fn last_line(place: Place, line: &[u8], schema: &[u8], base: &mut [u8])
-    requires { ⌜ (length (now line) ≡ 129) × (place .len ≤ 129) ⌝ }
-    ensures { λ _. ⌜ ((s : Stand) → StandsAt s (place .number) (place .len) (now (line .entry)) (now (base .entry)) → now (base .exit) ≡ lastReply (now (schema .entry)) s .base) ⌝ }
+fn last_line(progress: Progress, line: &[u8], schema: &[u8], base: &mut [u8])
+    requires { ⌜ (length (now line) ≡ 129) × (progress .len ≤ 129) ⌝ }
+    ensures { λ _. ⌜ ((s : Stand) → StandsAt s (progress .number) (progress .len) (now (line .entry)) (now (base .entry)) → now (base .exit) ≡ lastReply (now (schema .entry)) s .base) ⌝ }
 {
-    let number = place.number;
-    let len = place.len;
+    let number = progress.number;
+    let len = progress.len;
     if len != 0 {
         end_line(number, &line[..len], schema, base);
     }
@@ -137,6 +149,6 @@ fn main() {
     let mut base = [0u8; 1024];
     console::small::format(&schema, &mut base);
     let mut line = [0u8; 129];
-    let place = read_all(&mut line, &schema, &mut base);
-    last_line(place, &line, &schema, &mut base);
+    let progress = read_all(&mut line, &schema, &mut base);
+    last_line(progress, &line, &schema, &mut base);
 }

@@ -10,7 +10,7 @@ use Rattle.schema.specs.declared.Path.{Path}
 use Rattle.schema.specs.Decode.{pathOf}
 use Rattle.records.specs.AreaLaws.{master-keys, variable-keys, area-key-inside}
 use Rattle.calls.specs.Ladder.{otherAreaKey}
-use Rattle.forms.specs.FormLaws.{not-asked, is-asked, other-master, other-path}
+use Rattle.forms.specs.FormLaws.{not-asked, is-asked, other-master-key, other-path}
 use borrow.Author.Needs.{needs}
 use Rattle.forms.proofs.other_area_key.Statement.{statement}
 use Rattle.forms.proofs.other_area_key.Tie as tie
@@ -42,7 +42,7 @@ returns-2 c =
     let d = c .before .before .before .before in
     let a = d .before .before .before .args in
     is-asked (a .asked) (otherAreaKey (a .e) (a .on) (keyOf (a .control)) (now (a .area))) (not (c .same .result)) (asked d)
-    (ap not (rw (c .before .part .ensures .0) at (c .same .ensures)) ∙ sym (other-master (a .e) (now (a .area)) (a .on) (keyOf (a .control)) (eq-eqb _ _ (c .before .before .before .if2 .taken))))
+    (ap not (rw (c .before .part .ensures .0) at (c .same .ensures)) ∙ sym (other-master-key (a .e) (now (a .area)) (a .on) (keyOf (a .control)) (eq-eqb _ _ (c .before .before .before .if2 .taken))))
 
 area-key-place-requires : tie.Need-area-key-place-requires
 area-key-place-requires c κs = omega (arith, within c, c .before .before .before .before .pre .0 .few)

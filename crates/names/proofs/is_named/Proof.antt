@@ -4,7 +4,7 @@ use mathlib.Core.Path.{_≡_, sym, ap, _∙_}
 use denote.Ref.{now}
 use Rattle.schema.specs.declared.Entry.{Entry}
 use Rattle.schema.specs.Decode.{entryOf}
-use Rattle.names.specs.NameLaws.{other-length, other-master, by-link}
+use Rattle.names.specs.NameLaws.{other-length, other-master-name, by-link}
 use borrow.Author.Needs.{needs}
 use Rattle.names.proofs.is_named.Statement.{statement}
 use Rattle.names.proofs.is_named.Tie as tie
@@ -26,7 +26,7 @@ returns-2 c =
     let s = x .before .before .before in
     let l : x .entry-of .result .name < 4294967296 = search needs in
     sym (rw (x .entry-of .ensures) at
-    (other-master (x .entry-of .result .name) (s .args .p .letters) (now (s .args .name)) l (λ e. c .if2 .taken (e ∙ sym (c .before .word .ensures)))))
+    (other-master-name (x .entry-of .result .name) (s .args .p .letters) (now (s .args .name)) l (λ e. c .if2 .taken (e ∙ sym (c .before .word .ensures)))))
 
 reference-requires : tie.Need-reference-requires
 reference-requires c κs = search needs

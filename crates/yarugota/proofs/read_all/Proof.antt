@@ -11,12 +11,12 @@ use Rattle.yarugota.proofs.read_all.Statement.{statement}
 use Rattle.yarugota.proofs.read_all.Tie as tie
 
 abbrev Inv-loop : tie.InvT-loop
-Inv-loop line₀ schema base₀ place₀ turns₀ line base place turns =
-    (place .len ≤ 129) × (length line ≡ 129) × (length base ≡ length base₀)
-    × ((bytes : List ℕ) × StandsAt (bytesTaken schema (begun base₀) bytes) (place .number) (place .len) line base)
+Inv-loop line₀ schema base₀ progress₀ turns₀ line base progress turns =
+    (progress .len ≤ 129) × (length line ≡ 129) × (length base ≡ length base₀)
+    × ((bytes : List ℕ) × StandsAt (bytesTaken schema (begun base₀) bytes) (progress .number) (progress .len) line base)
 
 abbrev μ-loop : tie.MeasureT-loop
-μ-loop line₀ schema base₀ place₀ turns₀ line base place turns = turns
+μ-loop line₀ schema base₀ progress₀ turns₀ line base progress turns = turns
 
 loop-holds : tie.Need-loop-holds Inv-loop μ-loop
 unfolding bytesTaken

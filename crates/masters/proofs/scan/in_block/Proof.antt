@@ -11,7 +11,7 @@ use Rattle.octets.specs.Octets.{byteAt}
 use Rattle.octets.specs.Below.{lowestFrom}
 use Rattle.octets.specs.BelowLaws.{lowestFrom-turn, lowestFrom-hit, lowestFrom-end}
 use Rattle.masters.specs.Scans.{wantedIn}
-use Rattle.masters.specs.ScanLaws.{asked-is}
+use Rattle.masters.specs.ScanLaws.{wanted-is}
 use borrow.Author.Needs.{needs}
 use Rattle.masters.proofs.scan.in_block.Statement.{statement}
 use Rattle.masters.proofs.scan.in_block.Tie as tie
@@ -34,7 +34,7 @@ test : (l : tie.At-loop Inv-loop μ-loop) (t : Bool) → Bool·beq (eqb (byteAt 
     → wantedIn (l .before .args .live) (now (l .before .args .records)) (l .before .args .size) (l .loop .i) ≡ t
 test l t h =
     let a = l .before .args in
-    rw (l .loop .inv .1) at (sym (asked-is (a .live) (eqb (byteAt (now (a .records)) (l .loop .p)) 1)) ∙ h)
+    rw (l .loop .inv .1) at (sym (wanted-is (a .live) (eqb (byteAt (now (a .records)) (l .loop .p)) 1)) ∙ h)
 
 loop-holds : tie.Need-loop-holds Inv-loop μ-loop
 loop-holds c = (omega arith, omega arith, rw sub-zero)

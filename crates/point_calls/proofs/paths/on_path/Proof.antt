@@ -5,7 +5,7 @@ use borrow.Author.Tests.{lt-ltb, le-ltb}
 use Rattle.schema.specs.declared.Path.{Path}
 use Rattle.schema.specs.declared.Entry.{Entry}
 use Rattle.schema.specs.Decode.{entryOf, pathOf}
-use Rattle.names.specs.NameLaws.{on-masters}
+use Rattle.names.specs.NameLaws.{leads-to-masters}
 use borrow.Author.Needs.{needs}
 use Rattle.point_calls.proofs.paths.on_path.Statement.{statement}
 use Rattle.point_calls.proofs.paths.on_path.Tie as tie
@@ -13,7 +13,7 @@ use Rattle.point_calls.proofs.paths.on_path.Tie as tie
 path-named-requires : tie.Need-path-named-requires
 path-named-requires c κs =
     let s = c .before .before .before in
-    rw (s .pre .1 .1) (on-masters _ (s .pre .0 .ok) _ (s .pre .1 .0 .1))
+    rw (s .pre .1 .1) (leads-to-masters _ (s .pre .0 .ok) _ (s .pre .1 .0 .1))
 
 cast-paths : tie.Need-cast-paths
 cast-paths c = search needs
@@ -29,12 +29,12 @@ returns c =
 path-of-requires : tie.Need-path-of-requires
 path-of-requires c κs =
     let s = c .before .before .before .before .before .before in
-    omega (arith, c .if1 .left, rw (← s .pre .1 .1) at (on-masters _ (s .pre .0 .ok) _ (s .pre .1 .0 .1) .few))
+    omega (arith, c .if1 .left, rw (← s .pre .1 .1) at (leads-to-masters _ (s .pre .0 .ok) _ (s .pre .1 .0 .1) .few))
 
 entry-of-requires : tie.Need-entry-of-requires
 entry-of-requires c κs =
     let s = c .before .before .before .before .before .before .before in
-    rw (c .path-of .ensures, s .pre .1 .1) (on-masters _ (s .pre .0 .ok) _ (s .pre .1 .0 .1) .named _ (rw (s .pre .1 .1) at (c .before .if1 .left)) .master)
+    rw (c .path-of .ensures, s .pre .1 .1) (leads-to-masters _ (s .pre .0 .ok) _ (s .pre .1 .0 .1) .named _ (rw (s .pre .1 .1) at (c .before .if1 .left)) .master)
 
 reference-requires : tie.Need-reference-requires
 reference-requires c κs = search needs

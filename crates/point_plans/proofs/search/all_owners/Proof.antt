@@ -63,8 +63,8 @@ owned o =
 cast-paths : tie.Need-cast-paths Inv-loop μ-loop
 cast-paths c = search needs
 
-nowhere-requires : tie.Need-nowhere-requires Inv-loop μ-loop
-nowhere-requires c κs = search needs
+no-part-requires : tie.Need-no-part-requires Inv-loop μ-loop
+no-part-requires c κs = search needs
 
 loop-holds : tie.Need-loop-holds Inv-loop μ-loop
 loop-holds c =
@@ -113,7 +113,7 @@ returns c =
     let n : statusNumber (d .owner-on .result .status) ≡ 0 → ⊥ = λ z. c .if1 .taken (c .before .number .ensures ∙ z) in (
       others-refuse (now (a .base)) (a .t) (a .e) (a .on) (a .absent) (keys s) (l .loop .k) (a .e .count) _ (a .m) (l .loop .inv .4) (s .pre .1 .1)
           (ap (λ (o : Owner). o .status) (owned d)) n (one-of (d .before .before .before)),
-      (λ z. absurd (n (ap statusNumber z)), (λ _. rw (l .before .nowhere .ensures) refl, rw (l .before .nowhere .ensures) refl)),
+      (λ z. absurd (n (ap statusNumber z)), (λ _. rw (l .before .no-part .ensures) refl, rw (l .before .no-part .ensures) refl)),
     )
 
 mul-parts : tie.Need-mul-parts Inv-loop μ-loop
@@ -148,7 +148,7 @@ returns-2 : tie.Need-returns-2 Inv-loop μ-loop
 returns-2 c =
     let l = c .before in
     let k : l .loop .k ≡ start l .args .e .count = omega arith in
-    (sym (rw k at (l .loop .inv .4)), (λ z. rw k at (l .loop .inv .5), (λ z. absurd (z refl), rw k at (l .loop .inv .6) ∙ ap (λ (p : Part). drop (start l .args .e .count) (replicate 4 p)) (l .before .nowhere .ensures))))
+    (sym (rw k at (l .loop .inv .4)), (λ z. rw k at (l .loop .inv .5), (λ z. absurd (z refl), rw k at (l .loop .inv .6) ∙ ap (λ (p : Part). drop (start l .args .e .count) (replicate 4 p)) (l .before .no-part .ensures))))
 
 pub all-owners-spec : {M : Type 1} → statement M
 all-owners-spec =
@@ -157,7 +157,7 @@ all-owners-spec =
     Inv-loop
     μ-loop
     cast-paths
-    nowhere-requires
+    no-part-requires
     loop-holds
     mul-from
     array-read-from

@@ -28,23 +28,23 @@ part-of-requires c κs =
 enum-told : tie.Need-enum-told
 enum-told c = search needs
 
-nowhere-requires : tie.Need-nowhere-requires
-nowhere-requires c κs = search needs
+no-part-requires : tie.Need-no-part-requires
+no-part-requires c κs = search needs
 
 enum-told-2 : tie.Need-enum-told-2
 enum-told-2 c = search needs
 
-nowhere-requires-2 : tie.Need-nowhere-requires-2
-nowhere-requires-2 c κs = search needs
+no-part-requires-2 : tie.Need-no-part-requires-2
+no-part-requires-2 c κs = search needs
 
 returns : tie.Need-returns
 returns c = rw (found (c .before .before), c .part-of .ensures)
 
 returns-2 : tie.Need-returns-2
-returns-2 c = rw (sym (c .before .before .before .find .ensures .0) ∙ c .before .enum-told .given .1, c .nowhere .ensures)
+returns-2 c = rw (sym (c .before .before .before .find .ensures .0) ∙ c .before .enum-told .given .1, c .no-part .ensures)
 
 returns-3 : tie.Need-returns-3
-returns-3 c = rw (sym (c .before .before .before .find .ensures .0) ∙ c .before .enum-told2 .given .1, c .nowhere2 .ensures)
+returns-3 c = rw (sym (c .before .before .before .find .ensures .0) ∙ c .before .enum-told2 .given .1, c .no-part2 .ensures)
 
 pub owner-among-spec : {M : Type 1} → statement M
 owner-among-spec =
@@ -54,9 +54,9 @@ owner-among-spec =
     enum-known-found
     part-of-requires
     enum-told
-    nowhere-requires
+    no-part-requires
     enum-told-2
-    nowhere-requires-2
+    no-part-requires-2
     returns
     returns-2
     returns-3)
