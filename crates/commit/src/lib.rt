@@ -30,7 +30,7 @@ ghost use Rattle.plans.specs.Stores.{wordsOf, wordStores, headStores, wipedStor
 ghost use Rattle.commit.specs.Touched.{isNew, addNew, addAll, distinct, numbersOf, AllWithin, allSealed, sealEach, wordBlocks, headBlocks, wipedBlocks, planBlocks};
 
 // Numbers of blocks, each once: the first `count` of the array. A plan has at most eleven stores: two of its head, eight words and a wiped
-// record.
+// record; there is always room for one more.
 struct Blocks {
     numbers: [BlockNo; 12],
     count: usize,

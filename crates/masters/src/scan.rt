@@ -1,5 +1,5 @@
-// The scans of a set, of either kind: the lowest-numbered free record, and the next live one. A scan goes block by block, as the layout says.
-// In a block the records lie one behind the other, so it goes from state to state with no division.
+// The scans of a set, of either kind: the lowest-numbered free record, and the next live one. A scan goes from stretch to stretch as the
+// layout hands them out, block by block. In a stretch the records lie one behind the other: from state to state there is no division.
 use schema::Entry;
 use schema::layout::next_stretch;
 use schema::layout::records_of;

@@ -1,5 +1,5 @@
--- The adds and DELVD, whole: the status that the code comes to is the ladder's, and the plan that it makes stands for the stores of chains'
--- Points and may be committed.
+-- The adds and DELVD, whole: the status that the code comes to is the ladder's, and the plan that it makes stands for the stores of the room
+-- `points` and may be committed.
 use Prim.Native.Nat.{ℕ, zero, suc, _+_, _<_}
 use mathlib.Core.Path.{_≡_, refl, sym, ap, _∙_}
 use mathlib.Core.Bool.{Bool, true, false, cond}

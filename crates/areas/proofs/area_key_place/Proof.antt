@@ -1,4 +1,4 @@
--- `records::areas::area_key_place` meets its contract. The loop's invariant: `at` is the place of path k's key, and at most 255 for each path
+-- `areas::area_key_place` meets its contract. The loop's invariant: `at` is the place of path k's key, and at most 255 for each path
 -- passed, so that no sum wraps. Assumes nothing.
 use Prim.Native.Nat.{_*_, _-_, _≤_}
 use mathlib.Core.Path.{_≡_, ap, _∙_}

@@ -1,4 +1,4 @@
--- `records::areas::area_keys` meets its contract: the test is that of the definition. Assumes nothing.
+-- `areas::area_keys` meets its contract: the test is that of the definition. Assumes nothing.
 use borrow.Author.Needs.{needs}
 use Rattle.octets.specs.Cases.{cases}
 use Rattle.areas.proofs.area_keys.Statement.{statement}

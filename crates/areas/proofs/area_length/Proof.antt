@@ -1,4 +1,4 @@
--- `records::areas::area_length` meets its contract: the keys are no more than the places in front of the D bytes, so the sum fits. Assumes nothing.
+-- `areas::area_length` meets its contract: the keys are no more than the places in front of the D bytes, so the sum fits. Assumes nothing.
 use native.Mathlib.Omega.{arith}
 use borrow.Author.Needs.{needs}
 use Rattle.records.specs.AreaLaws.{keys-inside}

@@ -1,4 +1,4 @@
--- `records::areas::copy_part` meets its contract: a part's list is the run that it is lent for. Assumes nothing.
+-- `areas::copy_part` meets its contract: a part's list is the run that it is lent for. Assumes nothing.
 use native.Mathlib.Nat.{add-sub-cancel-left}
 use borrow.Author.Needs.{needs}
 use Rattle.areas.proofs.copy_part.Statement.{statement}

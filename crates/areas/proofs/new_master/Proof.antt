@@ -1,4 +1,4 @@
--- `records::areas::new_master` meets its contract: the fields, stored one behind the other, are one splice. Assumes nothing.
+-- `areas::new_master` meets its contract: the fields, stored one behind the other, are one splice. Assumes nothing.
 use Prim.Native.Nat.{_+_}
 use mathlib.Core.Path.{_≡_}
 use mathlib.Core.Bool.{true}

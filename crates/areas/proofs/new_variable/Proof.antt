@@ -1,4 +1,4 @@
--- `records::areas::new_variable` meets its contract: the fields, stored one behind the other, are one splice. Assumes nothing.
+-- `areas::new_variable` meets its contract: the fields, stored one behind the other, are one splice. Assumes nothing.
 use native.Mathlib.Omega.{arith}
 use denote.Ref.{now}
 use borrow.Author.Needs.{needs}

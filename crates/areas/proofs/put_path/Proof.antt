@@ -1,4 +1,4 @@
--- `records::areas::put_path` meets its contract: the key and the two words, stored one behind the other, are one splice. Assumes nothing.
+-- `areas::put_path` meets its contract: the key and the two words, stored one behind the other, are one splice. Assumes nothing.
 use denote.Ref.{now}
 use borrow.Author.Needs.{needs}
 use Rattle.octets.specs.Octets.{run}

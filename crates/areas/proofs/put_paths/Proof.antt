@@ -1,4 +1,4 @@
--- `records::areas::put_paths` meets its contract. The loop's invariant: what is left, stored from path j's place on, makes of the part what all
+-- `areas::put_paths` meets its contract. The loop's invariant: what is left, stored from path j's place on, makes of the part what all
 -- of it makes of the part at entry. Assumes nothing.
 use Prim.Native.Nat.{_+_, _-_, _≤_}
 use mathlib.Core.Path.{_≡_, refl, sym, ap, _∙_}

@@ -1,4 +1,4 @@
--- `records::areas::put_variable` meets its contract: what is stored into the record's part is stored into the data base. Assumes nothing.
+-- `areas::put_variable` meets its contract: what is stored into the record's part is stored into the data base. Assumes nothing.
 use Prim.Native.Nat.{_+_, _≤_}
 use mathlib.Core.Path.{_≡_, _∙_}
 use native.Mathlib.Omega.{arith}

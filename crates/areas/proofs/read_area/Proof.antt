@@ -1,4 +1,4 @@
--- `records::areas::read_area` meets its contract: each kind has its own function. Assumes nothing.
+-- `areas::read_area` meets its contract: each kind has its own function. Assumes nothing.
 use borrow.Author.Needs.{needs}
 use borrow.Author.Tests.{ne-eqb}
 use Rattle.areas.proofs.read_area.Statement.{statement}

@@ -1,4 +1,4 @@
--- `records::areas::read_master` meets its contract: the key and the D bytes of the record's part, stored into the whole area, are the area.
+-- `areas::read_master` meets its contract: the key and the D bytes of the record's part, stored into the whole area, are the area.
 -- Assumes nothing.
 use Prim.Native.Nat.{_+_, _≤_}
 use mathlib.Core.Path.{_≡_, ap, _∙_}

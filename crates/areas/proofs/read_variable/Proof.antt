@@ -1,4 +1,4 @@
--- `records::areas::read_variable` meets its contract. The loop's invariant: what is left, stored from `at` on, makes of the area what all of it
+-- `areas::read_variable` meets its contract. The loop's invariant: what is left, stored from `at` on, makes of the area what all of it
 -- makes of the area at entry. Assumes nothing.
 use Prim.Native.Nat.{ℕ, _+_, _-_, _≤_}
 use mathlib.Core.Path.{_≡_, refl, sym, ap, _∙_}

@@ -1,4 +1,4 @@
--- `schema::decode` meets its contract: a schema that breaks the form's rules is refused, and any other is built.
+-- `decode::decode` meets its contract: a schema that breaks the form's rules is refused, and any other is built.
 use mathlib.Core.Path.{sym, _∙_}
 use denote.Ref.{now}
 use borrow.Author.Tests.{not-false}

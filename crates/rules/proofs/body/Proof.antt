@@ -1,4 +1,4 @@
--- `schema::rules::body` meets its contract: the four rules that are left, joined.
+-- `rules::body` meets its contract: the four rules that are left, joined.
 use borrow.Author.Needs.{needs}
 use Rattle.rules.proofs.body.Tie as tie
 use Rattle.rules.proofs.body.Statement.{statement}

@@ -1,4 +1,4 @@
--- `schema::rules::clashes` meets its contract: two slots that do not both hold a path do not clash; else the last two tests decide.
+-- `rules::clashes` meets its contract: two slots that do not both hold a path do not clash; else the last two tests decide.
 use denote.Ref.{now}
 use Rattle.rules.specs.RulesLaws.{clash-none, clash-some}
 use borrow.Author.Needs.{needs}

@@ -1,4 +1,4 @@
--- `schema::rules::count` meets its contract: R's two bounds.
+-- `rules::count` meets its contract: R's two bounds.
 use Rattle.schema.specs.Rules.{countRule}
 use borrow.Author.Needs.{needs}
 use Rattle.rules.proofs.count.Tie as tie

@@ -1,4 +1,4 @@
--- `schema::rules::entries` meets its contract. The invariant: the rules of the entries passed, joined.
+-- `rules::entries` meets its contract. The invariant: the rules of the entries passed, joined.
 use Prim.Native.Nat.{_-_, _≤_}
 use mathlib.Core.Path.{_≡_}
 use denote.Ref.{now}

@@ -1,4 +1,4 @@
--- `schema::rules::entry` meets its contract: a used entry keeps the rules for a set, and any other is zero.
+-- `rules::entry` meets its contract: a used entry keeps the rules for a set, and any other is zero.
 use borrow.Author.Tests.{lt-ltb, le-ltb}
 use Rattle.schema.specs.Rules.{entryRule}
 use borrow.Author.Needs.{needs}

@@ -1,4 +1,4 @@
--- `schema::rules::form` meets its contract: a buffer of another length, a false check or a false head answer at once.
+-- `rules::form` meets its contract: a buffer of another length, a false check or a false head answer at once.
 use denote.Ref.{now}
 use Rattle.rules.specs.RulesLaws.{form-short, form-refused, form-body, few-sets}
 use borrow.Author.Needs.{needs}

@@ -1,4 +1,4 @@
--- `schema::rules::head` meets its contract: its four tests, joined.
+-- `rules::head` meets its contract: its four tests, joined.
 use Rattle.schema.specs.Rules.{headRule}
 use borrow.Author.Needs.{needs}
 use Rattle.rules.proofs.head.Tie as tie

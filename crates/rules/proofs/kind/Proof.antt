@@ -1,4 +1,4 @@
--- `schema::rules::kind` meets its contract: what is asked of a master, or of a variable.
+-- `rules::kind` meets its contract: what is asked of a master, or of a variable.
 use borrow.Author.Tests.{lt-ltb, le-ltb}
 use borrow.Author.Needs.{needs}
 use Rattle.rules.proofs.kind.Tie as tie

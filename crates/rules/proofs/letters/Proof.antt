@@ -1,4 +1,4 @@
--- `schema::rules::letters` meets its contract. The invariant: the slots passed, each apart from those before it.
+-- `rules::letters` meets its contract. The invariant: the slots passed, each apart from those before it.
 use Prim.Native.Nat.{_-_, _≤_}
 use mathlib.Core.Path.{_≡_}
 use denote.Ref.{now}

@@ -1,4 +1,4 @@
--- `schema::rules::master` meets its contract: its three tests, joined.
+-- `rules::master` meets its contract: its three tests, joined.
 use mathlib.Core.Path.{refl}
 use Rattle.schema.specs.Rules.{masterRule}
 use borrow.Author.Needs.{needs}

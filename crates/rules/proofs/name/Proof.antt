@@ -1,4 +1,4 @@
--- `schema::rules::name` meets its contract: the four characters, joined.
+-- `rules::name` meets its contract: the four characters, joined.
 use Rattle.schema.specs.Rules.{nameRule}
 use borrow.Author.Needs.{needs}
 use Rattle.rules.proofs.name.Tie as tie

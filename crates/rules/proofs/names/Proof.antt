@@ -1,4 +1,4 @@
--- `schema::rules::names` meets its contract. The invariant: the entries passed, each with a name that no entry before it has.
+-- `rules::names` meets its contract. The invariant: the entries passed, each with a name that no entry before it has.
 use Prim.Native.Nat.{_-_, _≤_}
 use mathlib.Core.Path.{_≡_}
 use denote.Ref.{now}

@@ -1,4 +1,4 @@
--- `schema::rules::new_letters` meets its contract: a slot without a path is apart from all. The invariant: the slots passed are apart from slot q.
+-- `rules::new_letters` meets its contract: a slot without a path is apart from all. The invariant: the slots passed are apart from slot q.
 use Prim.Native.Nat.{_-_, _≤_}
 use mathlib.Core.Path.{_≡_, ap}
 use mathlib.Core.Bool.{not}

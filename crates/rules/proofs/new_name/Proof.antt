@@ -1,4 +1,4 @@
--- `schema::rules::new_name` meets its contract. The invariant: the entries passed have not entry k's name.
+-- `rules::new_name` meets its contract. The invariant: the entries passed have not entry k's name.
 use Prim.Native.Nat.{_-_, _≤_}
 use mathlib.Core.Bool.{not}
 use mathlib.Core.Path.{_≡_, ap}

@@ -1,4 +1,4 @@
--- `schema::rules::path` meets its contract: its four tests, joined.
+-- `rules::path` meets its contract: its four tests, joined.
 use Rattle.schema.specs.Rules.{pathRule}
 use borrow.Author.Needs.{needs}
 use Rattle.rules.proofs.path.Tie as tie

@@ -1,4 +1,4 @@
--- `schema::rules::rest` meets its contract: the run of zeros.
+-- `rules::rest` meets its contract: the run of zeros.
 use Rattle.schema.specs.Rules.{restRule}
 use borrow.Author.Needs.{needs}
 use Rattle.rules.proofs.rest.Tie as tie

@@ -1,4 +1,4 @@
--- `schema::rules::same_run` meets its contract: the parts lent are the runs.
+-- `rules::same_run` meets its contract: the parts lent are the runs.
 use native.Mathlib.Nat.{add-sub-cancel-left}
 use borrow.Author.Needs.{needs}
 use Rattle.rules.proofs.same_run.Tie as tie

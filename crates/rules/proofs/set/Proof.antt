@@ -1,4 +1,4 @@
--- `schema::rules::set` meets its contract: its five rules, joined.
+-- `rules::set` meets its contract: its five rules, joined.
 use Rattle.schema.specs.Rules.{setRule}
 use borrow.Author.Needs.{needs}
 use Rattle.rules.proofs.set.Tie as tie

@@ -1,4 +1,4 @@
--- `schema::rules::slot` meets its contract: a used slot keeps the rule for a path, and any other is zero.
+-- `rules::slot` meets its contract: a used slot keeps the rule for a path, and any other is zero.
 use borrow.Author.Tests.{lt-ltb, le-ltb}
 use Rattle.schema.specs.Rules.{slotRule}
 use borrow.Author.Needs.{needs}

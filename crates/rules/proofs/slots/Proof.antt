@@ -1,4 +1,4 @@
--- `schema::rules::slots` meets its contract. The invariant: the rules of the slots passed, joined.
+-- `rules::slots` meets its contract. The invariant: the rules of the slots passed, joined.
 use Prim.Native.Nat.{_-_, _≤_}
 use mathlib.Core.Path.{_≡_}
 use denote.Ref.{now}

@@ -1,4 +1,4 @@
--- `schema::rules::variable` meets its contract: its three tests, joined.
+-- `rules::variable` meets its contract: its three tests, joined.
 use mathlib.Core.Path.{refl}
 use Rattle.schema.specs.Rules.{variableRule}
 use borrow.Author.Needs.{needs}

@@ -1,4 +1,4 @@
--- `schema::rules::zeros` meets its contract. The invariant: the bytes passed are zero, or not.
+-- `rules::zeros` meets its contract. The invariant: the bytes passed are zero, or not.
 use Prim.Native.Nat.{_-_, _≤_}
 use mathlib.Core.Path.{_≡_}
 use native.Mathlib.Omega.{arith}

@@ -1,4 +1,4 @@
--- `schema::build::body` meets its contract: a master's D bytes stand behind its linkage fields, a variable's behind its last path.
+-- `decode::build::body` meets its contract: a master's D bytes stand behind its linkage fields, a variable's behind its last path.
 use native.Mathlib.Omega.{arith}
 use denote.Ref.{now}
 use Rattle.decode.specs.DecodeLaws.{body-of-master, body-of-variable}

@@ -1,4 +1,4 @@
--- `schema::build::counted` meets its contract. The invariant: the paths in the slots passed are counted.
+-- `decode::build::counted` meets its contract. The invariant: the paths in the slots passed are counted.
 use Prim.Native.Nat.{_*_, _-_, _≤_}
 use mathlib.Core.Path.{_≡_}
 use native.Mathlib.Omega.{arith}

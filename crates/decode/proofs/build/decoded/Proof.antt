@@ -1,4 +1,4 @@
--- `schema::build::decoded` meets its contract: the form's rules give what the callees require.
+-- `decode::build::decoded` meets its contract: the form's rules give what the callees require.
 use denote.Ref.{now}
 use Rattle.schema.specs.FormFacts.{formed}
 use borrow.Author.Needs.{needs}

@@ -1,4 +1,4 @@
--- `schema::build::key_length` meets its contract: the master's entry is read.
+-- `decode::build::key_length` meets its contract: the master's entry is read.
 use mathlib.Core.Path.{refl}
 use borrow.Author.Needs.{needs}
 use Rattle.decode.proofs.build.key_length.Tie as tie

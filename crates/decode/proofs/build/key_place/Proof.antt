@@ -1,4 +1,4 @@
--- `schema::build::key_place` meets its contract. The invariant: where path k's key stands, with a bound that fits.
+-- `decode::build::key_place` meets its contract. The invariant: where path k's key stands, with a bound that fits.
 use Prim.Native.Nat.{_+_, _*_, _-_, _≤_}
 use mathlib.Core.Path.{_≡_}
 use native.Mathlib.Omega.{arith}

@@ -1,4 +1,4 @@
--- `schema::build::laid_out` meets its contract. The invariant: the sets passed are laid out, and none has too long a record.
+-- `decode::build::laid_out` meets its contract. The invariant: the sets passed are laid out, and none has too long a record.
 use Prim.Native.Nat.{_-_, _≤_}
 use mathlib.Core.Path.{_≡_}
 use native.Mathlib.Omega.{arith}

@@ -1,4 +1,4 @@
--- `schema::build::no_entry` meets its contract: four empty slots.
+-- `decode::build::no_entry` meets its contract: four empty slots.
 use mathlib.Core.Path.{refl}
 use borrow.Author.Needs.{needs}
 use Rattle.decode.proofs.build.no_entry.Tie as tie

@@ -1,4 +1,4 @@
--- `schema::build::path` meets its contract: the fields of the slot, with its two places.
+-- `decode::build::path` meets its contract: the fields of the slot, with its two places.
 use Rattle.schema.specs.Layout.{linkPlace}
 use borrow.Author.Needs.{needs}
 use Rattle.decode.proofs.build.path.Tie as tie

@@ -1,4 +1,4 @@
--- `schema::build::paths` meets its contract. The invariant: the slots passed are filled, the others empty.
+-- `decode::build::paths` meets its contract. The invariant: the slots passed are filled, the others empty.
 use Prim.Native.Nat.{_-_, _≤_, _<_}
 use mathlib.Core.Path.{_≡_, refl}
 use native.Mathlib.Omega.{arith}

@@ -1,4 +1,4 @@
--- `schema::build::per_block` meets its contract: a quotient is at most what is divided.
+-- `decode::build::per_block` meets its contract: a quotient is at most what is divided.
 use native.Mathlib.Nat.{div-le-self}
 use native.Mathlib.Omega.{arith}
 use borrow.Author.Needs.{needs}

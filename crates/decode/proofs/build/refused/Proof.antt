@@ -1,4 +1,4 @@
--- `schema::build::refused` meets its contract: eight empty entries.
+-- `decode::build::refused` meets its contract: eight empty entries.
 use mathlib.Core.Path.{refl}
 use borrow.Author.Needs.{needs}
 use Rattle.decode.proofs.build.refused.Tie as tie

@@ -1,4 +1,4 @@
--- `schema::build::set` meets its contract: the fields of the entry, with its layout.
+-- `decode::build::set` meets its contract: the fields of the entry, with its layout.
 use borrow.Author.Needs.{needs}
 use Rattle.decode.proofs.build.set.Tie as tie
 use Rattle.decode.proofs.build.set.Statement.{statement}

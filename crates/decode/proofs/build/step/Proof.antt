@@ -1,4 +1,4 @@
--- `schema::build::step` meets its contract: a path adds one to its master's count and is numbered by the count before.
+-- `decode::build::step` meets its contract: a path adds one to its master's count and is numbered by the count before.
 use Prim.Native.Nat.{_<_}
 use mathlib.Core.Bool.{true}
 use mathlib.Core.Path.{_≡_, refl, sym, _∙_}

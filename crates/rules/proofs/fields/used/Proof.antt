@@ -1,4 +1,4 @@
--- `schema::fields::used` meets its contract: what the callee says of the entry.
+-- `rules::fields::used` meets its contract: what the callee says of the entry.
 use borrow.Author.Needs.{needs}
 use Rattle.rules.proofs.fields.used.Tie as tie
 use Rattle.rules.proofs.fields.used.Statement.{statement}

@@ -1,4 +1,4 @@
--- `signon::homes::found_at` meets its contract, case by case.
+-- `signon::on_masters::found_at` meets its contract, case by case.
 use mathlib.Core.Path.{refl}
 use borrow.Author.Needs.{needs}
 use Rattle.signon.proofs.on_masters.found_at.Statement.{statement}

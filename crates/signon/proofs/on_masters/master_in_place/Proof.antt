@@ -1,4 +1,4 @@
--- `signon::homes::master_in_place` meets its contract, test by test.
+-- `signon::on_masters::master_in_place` meets its contract, test by test.
 use denote.Ref.{now}
 use Rattle.signon.specs.HomeLaws.{place-blank, place-lost, place-next, place-prior}
 use borrow.Author.Needs.{needs}

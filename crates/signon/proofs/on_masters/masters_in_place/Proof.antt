@@ -1,4 +1,4 @@
--- `signon::homes::masters_in_place` meets its contract. The invariant: the masters passed are in place.
+-- `signon::on_masters::masters_in_place` meets its contract. The invariant: the masters passed are in place.
 use Prim.Native.Nat.{_+_, _-_, _≤_}
 use mathlib.Core.Path.{_≡_}
 use mathlib.Core.Bool.{true}

@@ -1,4 +1,4 @@
--- `signon::homes::next_answers` meets its contract, test by test; a master of the home is a record of the set.
+-- `signon::on_masters::next_answers` meets its contract, test by test; a master of the home is a record of the set.
 use native.Mathlib.Omega.{arith}
 use denote.Ref.{now}
 use Rattle.signon.specs.HomeLaws.{next-none, next-other, next-back, next-in}

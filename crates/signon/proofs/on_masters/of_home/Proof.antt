@@ -1,4 +1,4 @@
--- `signon::homes::of_home` meets its contract, test by test.
+-- `signon::on_masters::of_home` meets its contract, test by test.
 use denote.Ref.{now}
 use Rattle.signon.specs.HomeLaws.{home-above, home-free, home-own}
 use borrow.Author.Needs.{needs}

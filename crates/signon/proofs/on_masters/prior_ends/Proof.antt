@@ -1,4 +1,4 @@
--- `signon::homes::prior_ends` meets its contract: away from home, and at home.
+-- `signon::on_masters::prior_ends` meets its contract: away from home, and at home.
 use denote.Ref.{now}
 use Rattle.signon.specs.HomeLaws.{prior-synonym, prior-home}
 use borrow.Author.Needs.{needs}

@@ -1,4 +1,4 @@
--- `signon::homes::record_in_place` meets its contract: a record that is not live, and a master.
+-- `signon::on_masters::record_in_place` meets its contract: a record that is not live, and a master.
 use denote.Ref.{now}
 use Rattle.signon.specs.HomeLaws.{not-live, is-live}
 use borrow.Author.Needs.{needs}

@@ -1,4 +1,4 @@
--- `signon::points::chain_of` meets its contract: a record that is not live, and a master.
+-- `signon::on_points::chain_of` meets its contract: a record that is not live, and a master.
 use denote.Ref.{now}
 use Rattle.signon.specs.PointLaws.{chain-none, chain-some}
 use borrow.Author.Needs.{needs}

@@ -1,4 +1,4 @@
--- `signon::points::in_order` meets its contract, test by test.
+-- `signon::on_points::in_order` meets its contract, test by test.
 use denote.Ref.{now}
 use Rattle.terms.specs.Terms.{keyOf}
 use Rattle.signon.specs.PointLaws.{order-above, order-free, order-other, order-last}

@@ -1,4 +1,4 @@
--- `signon::points::live_count` meets its contract. The invariant: the live records passed are counted.
+-- `signon::on_points::live_count` meets its contract. The invariant: the live records passed are counted.
 use Prim.Native.Nat.{_-_, _≤_}
 use mathlib.Core.Path.{_≡_}
 use mathlib.Core.Logic.{⊎-elim}

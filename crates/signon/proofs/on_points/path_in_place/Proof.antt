@@ -1,4 +1,4 @@
--- `signon::points::path_in_place` meets its contract. The invariant: the chains of the masters passed are in order, and their points are
+-- `signon::on_points::path_in_place` meets its contract. The invariant: the chains of the masters passed are in order, and their points are
 -- counted; no chain has more than 65,535, nor has a set more masters, so the sum fits.
 use Prim.Native.Nat.{_+_, _*_, _-_, _≤_}
 use mathlib.Core.Path.{_≡_, sym}

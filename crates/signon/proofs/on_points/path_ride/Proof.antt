@@ -1,4 +1,4 @@
--- `signon::points::path_ride` meets its contract: the ride of the master's key, from its first.
+-- `signon::on_points::path_ride` meets its contract: the ride of the master's key, from its first.
 use mathlib.Core.Path.{_∙_}
 use denote.Ref.{now}
 use Rattle.signon.specs.PointLaws.{pathRide-is}

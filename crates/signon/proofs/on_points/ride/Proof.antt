@@ -1,4 +1,4 @@
--- `signon::points::ride` meets its contract. The invariant: what is left of the ride gives what the whole ride gives.
+-- `signon::on_points::ride` meets its contract. The invariant: what is left of the ride gives what the whole ride gives.
 use Prim.Native.Nat.{_+_, _-_, _≤_}
 use mathlib.Core.Path.{_≡_, refl, sym, _∙_}
 use native.Mathlib.Omega.{arith}
