@@ -1,9 +1,8 @@
 -- A call that is done has passed every test of the ladder; and no call changes how long the data base is.
 use Prim.Native.Nat.{ℕ, zero, suc, _*_, _<_}
-use mathlib.Core.Path.{_≡_, refl, sym, _∙_, ap}
+use mathlib.Core.Path.{_≡_, refl, sym, _∙_}
 use mathlib.Core.Bool.{Bool, true, false, cond}
 use mathlib.Core.List.{List, [], _∷_, _++_}
-use native.Mathlib.Omega.{arith}
 use lib.Dec.{eqb, lit<}
 use lib.ListN.{length}
 use borrow.Author.Tests.{eqb-true, not-false}
@@ -16,7 +15,7 @@ use Rattle.calls.specs.Scene.{Scene, sceneOf}
 use Rattle.calls.specs.Ladder.{Test, refusal, generalTests, parameterTests, foundTests, otherMasterTests, finalTests, ladder}
 use Rattle.plans.specs.Plan.{formatted, committed}
 use Rattle.plans.specs.PlanLaws.{length-committed, length-formatted}
-use Rattle.terms.specs.Laws.{status-number-one}
+use Rattle.terms.specs.Laws.{status-number-one, one-passes}
 use Rattle.calls.specs.Reply.{storesOf, baseAfter}
 use Rattle.calls.specs.Outcome.{refused, done, outcomeIn, outcome}
 use Rattle.calls.specs.Theorems.{status-of-ladder}
@@ -59,11 +58,6 @@ ladder-refuses x c =
 
     final : Refusing (finalTests x c)
     final = search (tt, lit<)
-
--- one test, and what is behind it
-one-passes : (b : Bool) (s t : Status) → 0 < statusNumber s → cond b s t ≡ Done → (b ≡ false) × (t ≡ Done)
-one-passes true s t h e = absurd (let z : statusNumber s ≡ 0 = ap statusNumber e in omega arith)
-one-passes false s t h e = (refl, e)
 
 pub done-passes : (tests : List Test) → Refusing tests → refusal tests ≡ Done → Passes tests
 unfolding refusal

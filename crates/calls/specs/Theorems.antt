@@ -46,12 +46,12 @@ refused-changes-nothing c n =
 zero-done : (s : Status) → eqb (statusNumber s) 0 ≡ true → s ≡ Done
 zero-done s h = status-number-one s Done (eqb-true (statusNumber s) 0 h)
 
-decided : (b : Bool) (s : Status) (o : Outcome) (c : Call) → o .status ≡ Done → (b ≡ true → s ≡ Done) → cond b o (refused c s) .status ≡ s
-decided true s o c e d = e ∙ sym (d refl)
-decided false s o c e d = refl
+either-status : (b : Bool) (s : Status) (o : Outcome) (c : Call) → o .status ≡ Done → (b ≡ true → s ≡ Done) → cond b o (refused c s) .status ≡ s
+either-status true s o c e d = e ∙ sym (d refl)
+either-status false s o c e d = refl
 
 pub status-of-ladder : (c : Call) → outcome c .status ≡ refusal (ladder (sceneOf c) c)
 unfolding outcome outcomeIn done
 status-of-ladder c =
-    decided (eqb (statusNumber (refusal (ladder (sceneOf c) c))) 0) (refusal (ladder (sceneOf c) c)) (done (sceneOf c) c) c refl
+    either-status (eqb (statusNumber (refusal (ladder (sceneOf c) c))) 0) (refusal (ladder (sceneOf c) c)) (done (sceneOf c) c) c refl
     (zero-done (refusal (ladder (sceneOf c) c)))

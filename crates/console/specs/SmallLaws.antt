@@ -15,7 +15,7 @@ use Rattle.octets.specs.Text.{text}
 use Rattle.terms.specs.declared.Status.the-variants.{Done}
 use Rattle.terms.specs.Operation.{operationOf}
 use Rattle.blocks.specs.Blocks.{checkOf, isSealed, seal}
-use Rattle.schema.specs.Rules.{blockRule, headRule, nameRule, masterRule, variableRule, countRule, pathRule, slotRule, setRule, entryRule, restRule, namesRule, clash, lettersRule, formRule}
+use Rattle.schema.specs.Rules.{blockRule, headRule, nameRule, masterRule, variableRule, recordsRule, pathRule, slotRule, setRule, entryRule, restRule, namesRule, clash, lettersRule, formRule}
 use Rattle.schema.specs.Layout.{linksBefore, keyPlace, linkPlace, bodyPlace, firstBlock, sizeRule, keepsRules}
 use Rattle.schema.specs.Decode.{pathFrom, entryFrom, schemaOf}
 use Rattle.plans.specs.Plan.{blocksSealed, sealBelow, formatted}
@@ -80,5 +80,5 @@ kept-enough number line schema base = go (leb (length line) 129) refl
 -- ---- what the program formats, 1,024 zeros, becomes the formatted store of two blocks
 
 pub formats : (outcome (formatCall (smallSchema 6) (zeros 1024)) .status ≡ Done) × (outcome (formatCall (smallSchema 6) (zeros 1024)) .base ≡ formatted 2)
-unfolding halfAt wordAt splice setWord every sameBytes sumOnto allBelow sumBelow lowestFrom concatBelow operationOf checkOf isSealed seal pathFrom entryFrom schemaOf linksBefore keyPlace linkPlace bodyPlace firstBlock sizeRule keepsRules blockRule headRule nameRule masterRule variableRule countRule pathRule slotRule setRule entryRule restRule namesRule clash lettersRule formRule sealBelow formatted refusal ladder done outcomeIn outcome baseAfter storesOf blocksSealed countBelow setNamed pathNamed sceneUnder twoSets smallSchema
+unfolding halfAt wordAt splice setWord every sameBytes sumOnto allBelow sumBelow lowestFrom concatBelow operationOf checkOf isSealed seal pathFrom entryFrom schemaOf linksBefore keyPlace linkPlace bodyPlace firstBlock sizeRule keepsRules blockRule headRule nameRule masterRule variableRule recordsRule pathRule slotRule setRule entryRule restRule namesRule clash lettersRule formRule sealBelow formatted refusal ladder done outcomeIn outcome baseAfter storesOf blocksSealed countBelow setNamed pathNamed sceneUnder twoSets smallSchema
 formats = (refl, refl)

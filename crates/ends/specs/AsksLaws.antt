@@ -20,7 +20,8 @@ use Rattle.calls.specs.Scene.{sceneUnder}
 use Rattle.calls.specs.SceneLaws.{found-here}
 use Rattle.calls.specs.Ladder.{refusal}
 use Rattle.calls.specs.Answer.{answered, seekTests, restTests}
-use Rattle.ends.specs.Ends.{Ends, refused-ends}
+use Rattle.ends.specs.Ends.{Ends}
+use Rattle.ends.specs.EndsLaws.{refused-ends}
 use Rattle.ends.specs.Asks.{Asks, placedOutcome}
 
 -- the five letters of an operation

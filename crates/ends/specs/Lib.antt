@@ -1,4 +1,5 @@
 pub mod Asks
 pub mod AsksLaws
 pub mod Ends
+pub mod EndsLaws
 pub mod FormFacts

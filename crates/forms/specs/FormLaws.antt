@@ -13,7 +13,7 @@ use Rattle.octets.specs.Below.{allBelow}
 use Rattle.octets.specs.BelowLaws.{allBelow-fails}
 use Rattle.octets.specs.TestLaws.{never-both}
 use Rattle.terms.specs.declared.Status.{Status}
-use Rattle.terms.specs.declared.Status.the-variants.{Done, Area, Klen, Bctl, Keys, Ivrp}
+use Rattle.terms.specs.declared.Status.the-variants.{Done, Area, Klen, Ivrp}
 use Rattle.terms.specs.declared.Operation.{Operation}
 use Rattle.terms.specs.declared.Operation.the-variants.{Formt, Sinon, AddM, DelM, Readm, Writm, Rqloc, Rdnxt, Readv, Readr, Readd, Writv, Addvc, Addvb, Addva, Delvd, Unknown}
 use Rattle.schema.specs.declared.Entry.{Entry}

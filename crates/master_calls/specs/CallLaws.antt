@@ -1,8 +1,8 @@
 -- How each call on masters ends, from what its code has read: the search's answer, the record that is given, the plan that is committed.
 use Prim.Native.Nat.{ℕ}
 use mathlib.Core.Path.{_≡_, refl, sym, ap, _∙_}
-use mathlib.Core.Bool.{Bool, true, false, cond}
 use mathlib.Core.List.{List}
+use native.Mathlib.Omega.{arith}
 use lib.ListN.{length}
 use Rattle.terms.specs.Terms.{homeOf}
 use Rattle.terms.specs.declared.Status.{Status}
@@ -35,9 +35,11 @@ use Rattle.calls.specs.Outcome.{done}
 use Rattle.calls.specs.Ladder.{refusal}
 use Rattle.calls.specs.Answer.{answered, restTests}
 use Rattle.terms.specs.Status.{firstOf}
+use Rattle.terms.specs.Laws.{two-first}
 use Rattle.calls.specs.RestLaws.{storable, rest-readm, rest-writm, rest-addm, rest-delm, rest-rqloc}
 use Rattle.ends.specs.AsksLaws.{found-among, seek-passes}
-use Rattle.ends.specs.Ends.{Ends, gave, gave-answers, settled, settled-answers}
+use Rattle.ends.specs.Ends.{Ends, gave, settled}
+use Rattle.ends.specs.EndsLaws.{gave-answers, settled-answers}
 use Rattle.master_calls.specs.Masters.{NamedCall, AnswersOn, AnswersIn}
 use Rattle.master_calls.specs.MasterLaws.{readm-call, writm-call, delm-call, seek-none, damage-ends, missing-ends, found-ends, add-damage-ends, there-ends, absent-ends}
 
@@ -86,17 +88,6 @@ any-head Variable e area l = l
 any-head Stranger e area l = l
 any-head Synonym e area l = tt
 
--- two tests that refuse, and the rest
-two-first : (a b : Bool) (v : Status) → cond a Full (cond b Damg v) ≡ firstOf (cond a Full (cond b Damg Done)) v
-two-first true b v = refl
-two-first false true v = refl
-two-first false false v = refl
-
-two-later : (a b : Bool) (v : Status) → cond a Imdl (cond b Damg v) ≡ firstOf (cond a Imdl (cond b Damg Done)) v
-two-later true b v = refl
-two-later false true v = refl
-two-later false false v = refl
-
 -- ---- WRITM
 
 module _ (e : Entry) (r : ℕ) (key area b : List ℕ) (m : RecordNo) where
@@ -134,7 +125,7 @@ module _ (e : Entry) (r : ℕ) (key area b : List ℕ) where
       let v : u ≡ addMasterStatus (c .base) (x .entry) (homeOfKey x c) = rw (w, m, hk, hb) us in
       rw (← hb, ← ha, ← hr)
       (settled-answers x c (refusal (restTests x c)) u xs (c .reference)
-      (rest-addm x c o ∙ two-first (addMasterFull (c .base) (x .entry) (homeOfKey x c)) (addMasterDamaged (c .base) (x .entry) (homeOfKey x c)) (storable x c)
+      (rest-addm x c o ∙ two-first (addMasterFull (c .base) (x .entry) (homeOfKey x c)) (addMasterDamaged (c .base) (x .entry) (homeOfKey x c)) Full Damg (storable x c) (omega arith) (omega arith)
       ∙ ap (λ v. firstOf v (storable x c)) (sym v))
       (λ d. rw (o, w, m, hk, hb, ha) (sym (ws d))) (λ _. rw o refl) (rw o refl) (rw o refl))
 
@@ -168,7 +159,7 @@ module _ (t : Schema) (n : ℕ) (e : Entry) (r : ℕ) (key area b : List ℕ) wh
       rw (← hb, ← ha, ← hr)
       (settled-answers x c (refusal (restTests x c)) u xs (c .reference)
       (rest-delm x c o
-      ∙ two-later (hasPoints (x .schema) (c .base) (x .number) (masterIn x)) (delMasterDamaged (c .base) (x .entry) (homeOfKey x c) (masterIn x)) (storable x c)
+      ∙ two-first (hasPoints (x .schema) (c .base) (x .number) (masterIn x)) (delMasterDamaged (c .base) (x .entry) (homeOfKey x c) (masterIn x)) Imdl Damg (storable x c) (omega arith) (omega arith)
       ∙ ap (λ v. firstOf v (storable x c)) (sym v))
       (λ d. rw (o, w, ms, f, hk, hb) (sym (ws d))) (λ _. rw o refl) (rw o refl) (rw o refl))
 

@@ -22,7 +22,7 @@ use Rattle.master_plans.specs.Status.{delMasterStatus}
 use Rattle.master_plans.specs.Shape.{Shaped, StandsFor, neighboursDamaged}
 use Rattle.master_plans.specs.ShapeLaws.{shaped-stores, shaped-ok, fit-append, fit-side}
 use Rattle.master_plans.specs.TestLaws.{not-bad}
-use Rattle.octets.specs.TestLaws.{neither}
+use Rattle.octets.specs.TestLaws.{either-left, neither}
 
 -- ---- the plans
 
@@ -49,9 +49,6 @@ module _ (b : List ℕ) (e : Entry) (ok : LiesIn e (length b)) (m : MasterOk e) 
 
 -- ---- the final 16
 
-by-first : (s t : Bool) → s ≡ true → (s || t) ≡ true
-by-first s t h = rw h
-
 by-second : (s m x : Bool) → s ≡ false → m ≡ true → (s || m && x) ≡ x
 by-second s m x h k = rw (h, k)
 
@@ -69,7 +66,7 @@ module _ (b : List ℕ) (e : Entry) (h r : ℕ) where
 
   pub del-damaged : neighboursDamaged b e h r ≡ true → delMasterDamaged b e h r ≡ true
   unfolding delMasterDamaged
-  del-damaged d = by-first (neighboursDamaged b e h r) _ d
+  del-damaged d = either-left (neighboursDamaged b e h r) _ d
 
   module _ (d : neighboursDamaged b e h r ≡ false) where
     pub del-near : (rootPrior b e r ≤ e .records) × (rootNext b e r ≤ e .records)

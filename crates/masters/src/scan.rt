@@ -10,8 +10,7 @@ ghost use Prim.Native.Nat.{_+_, _*_, _-_, _≤_, _<_};
 ghost use lib.ListN.{length};
 ghost use Rattle.octets.specs.Below.{lowestFrom};
 ghost use Rattle.schema.specs.Place.{LiesIn};
-ghost use Rattle.records.specs.Records.{isLive};
-ghost use Rattle.masters.specs.Find.{lowestFree};
+ghost use Rattle.masters.specs.Find.{lowestFree, nextLive};
 ghost use Rattle.masters.specs.Scans.{wanted, wantedIn};
 
 // Of n records that lie one behind the other, `size` bytes each: how many come before the first live one, or free one; n where there is none.
@@ -71,7 +70,7 @@ pub fn next_live(base: &[u8], e: Entry, from: u32) -> u32
     requires { ⌜ LiesIn e (length (now base)) ⌝ }
     requires { ⌜ 1 ≤ e .size ⌝ }
     requires { ⌜ from ≤ e .records ⌝ }
-    ensures { λ r. ⌜ r ≡ lowestFrom (isLive (now (base .entry)) e) (e .records - from) (from + 1) ⌝ }
+    ensures { λ r. ⌜ r ≡ nextLive (now (base .entry)) e from ⌝ }
 {
     if from == e.records {
         return from + 1;

@@ -14,6 +14,13 @@ asked true b h e = h
 asked false b h e = absurd (never-both false e refl)
 
 -- one of the two holds
+pub either-left : (a b : Bool) → a ≡ true → (a || b) ≡ true
+either-left a b h = rw h
+
+pub either-right : (a b : Bool) → b ≡ true → (a || b) ≡ true
+either-right true b h = refl
+either-right false b h = h
+
 pub either : (a b : Bool) → (a || b) ≡ true → (a ≡ true) ⊎ (b ≡ true)
 either true b h = inl refl
 either false b h = inr h

@@ -28,7 +28,8 @@ use Rattle.calls.specs.Ladder.{refusal, isLink}
 use Rattle.calls.specs.Answer.{answered, restTests}
 use Rattle.calls.specs.RestLaws.{rest-readv, rest-readr, rest-readd}
 use Rattle.ends.specs.AsksLaws.{found-among}
-use Rattle.ends.specs.Ends.{Ends, gave, gave-answers}
+use Rattle.ends.specs.Ends.{Ends, gave}
+use Rattle.ends.specs.EndsLaws.{gave-answers}
 use Rattle.ends.specs.Asks.{Asks}
 use Rattle.point_calls.specs.OnPath.{PointCall, readBy, looksAt, OnPath, seekStatus, Seen, pointerOn, AnswersOnPath}
 use Rattle.point_calls.specs.PathLaws.{readv-call, readr-call, readd-call}

@@ -5,6 +5,7 @@ use Prim.Native.Nat.{ℕ, zero, suc}
 use mathlib.Core.Path.{_≡_, refl, ap, _∙_, sym}
 use mathlib.Core.Bool.{Bool, true, false, cond, not, _&&_}
 use mathlib.Core.List.{List, [], _∷_, _++_, append-assoc}
+use native.Mathlib.Omega.{arith}
 use lib.Dec.{eqb}
 use Rattle.octets.specs.Below.{concatBelow}
 use Rattle.terms.specs.declared.Status.{Status}
@@ -25,7 +26,7 @@ use Rattle.calls.specs.Ladder.{Test, refusal, masterTests, finalTests}
 use Rattle.calls.specs.LadderLaws.{Passes, refusal-passed, passes-below}
 use Rattle.calls.specs.Answer.{restTests}
 use Rattle.calls.specs.RestLaws.{storable}
-use Rattle.terms.specs.Laws.{firstOf-assoc}
+use Rattle.terms.specs.Laws.{firstOf-assoc, one-first, two-first}
 
 -- the two tests of one path, "16, then 12", and the one status of its master's search; `named` where it is the named path
 one-path : (absent more : Status) → eqb (statusNumber absent) 0 ≡ false → (named : Bool) (f : Found)
@@ -34,16 +35,6 @@ one-path absent more h true f = refl
 one-path absent more h false (At r) = refl
 one-path absent more h false Missing = rw h refl
 one-path absent more h false Damaged = refl
-
--- 15 and 16 of an add, and DELVD's 16, as one status each
-two-more : (f d : Bool) (more : Status) → cond f Full (cond d Damg more) ≡ firstOf (cond f Full (cond d Damg Done)) more
-two-more true d more = refl
-two-more false true more = refl
-two-more false false more = refl
-
-one-more : (d : Bool) (more : Status) → cond d Damg more ≡ firstOf (cond d Damg Done) more
-one-more true more = refl
-one-more false more = refl
 
 module _ (x : Scene) (c : Call) where
   module _ (os : List Operation) (absent : Status) (key : ℕ → List ℕ) where
@@ -97,7 +88,7 @@ module _ (x : Scene) (c : Call) where
       ∙ paths adds Mrnf (areaKeyOn (x .entry) (c .area)) h refl (x .entry .count) (delTests ++ finalTests x c)
       ∙ ap (firstOf addOthers)
       (refusal-passed delTests (finalTests x c) (paths-pass (Delvd ∷ []) Damg _ k (x .entry .count))
-      ∙ f ∙ two-more (isFull (c .base) (x .entry)) addDamage (storable x c))
+      ∙ f ∙ two-first (isFull (c .base) (x .entry)) addDamage Full Damg (storable x c) (omega arith) (omega arith))
       ∙ sym (firstOf-assoc addOthers (cond (isFull (c .base) (x .entry)) Full (cond addDamage Damg Done)) (storable x c))
 
   pub rest-addvc : x .operation ≡ Addvc → refusal (restTests x c) ≡ firstOf addable (storable x c)
@@ -134,5 +125,5 @@ module _ (x : Scene) (c : Call) where
       groups (rw e refl)
       ∙ refusal-passed addTests (delTests ++ finalTests x c) (paths-pass adds Mrnf _ (rw e refl) (x .entry .count))
       ∙ paths (Delvd ∷ []) Damg (ownKey (c .base) (x .schema) (x .entry) (c .reference)) (rw e refl) refl (x .entry .count) (finalTests x c)
-      ∙ ap (firstOf delOthers) (final-delvd e ∙ one-more delDamage (storable x c))
+      ∙ ap (firstOf delOthers) (final-delvd e ∙ one-first delDamage Damg (storable x c) (omega arith))
       ∙ sym (firstOf-assoc delOthers (cond delDamage Damg Done) (storable x c))

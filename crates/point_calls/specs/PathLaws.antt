@@ -17,7 +17,7 @@ use Rattle.terms.specs.declared.Operation.{Operation}
 use Rattle.terms.specs.declared.Operation.the-variants.{Readv, Readr, Readd, Writv, Addvc, Addvb, Addva, Delvd}
 use Rattle.terms.specs.Terms.{endRef}
 use Rattle.terms.specs.Status.{firstOf}
-use Rattle.terms.specs.Laws.{refused-done}
+use Rattle.terms.specs.Laws.{refused-done, one-passes}
 use Rattle.terms.specs.Operation.{operationOf}
 use Rattle.schema.specs.declared.Path.{Path}
 use Rattle.schema.specs.declared.Entry.{Entry}
@@ -38,7 +38,7 @@ use Rattle.calls.specs.Answer.{placeTests, formTests}
 use Rattle.forms.specs.Form.{rungsOf, formStatus}
 use Rattle.forms.specs.FormLaws.{form-tests, other-path}
 use Rattle.ends.specs.AsksLaws.{operationLetters, letters-ask, someone-asks}
-use Rattle.ends.specs.FormFacts.{passed, key-length, area-length}
+use Rattle.ends.specs.FormFacts.{key-length, area-length}
 use Rattle.octets.specs.TestLaws.{asked, either}
 use Rattle.ends.specs.Asks.{Asks, placedStatus}
 use Rattle.records.specs.InBase.{Laid, IsPathUnder, PointsIn}
@@ -85,11 +85,11 @@ module _ (o : Operation) (e : Entry) (on link k ref : ℕ) (key area : List ℕ)
   keys-passed : ((rungsOf o .same && otherAreaKey e on key area) ≡ false) × (behindKeys ≡ Done)
   unfolding formStatus
   keys-passed =
-      let p = passed (rungsOf o .area && not (eqb (length area) (areaLength e))) Area _ (omega arith) d in
-      let q = passed (rungsOf o .key && not (eqb (length key) k)) Klen _ (omega arith) (p .1) in
-      let r = passed (rungsOf o .key && allBlank key) Bctl _ (omega arith) (q .1) in
-      let s = passed (rungsOf o .blank && blankAreaKey e area) Bctl _ (omega arith) (r .1) in
-      passed (rungsOf o .same && otherAreaKey e on key area) Keys behindKeys (omega arith) (s .1)
+      let p = one-passes (rungsOf o .area && not (eqb (length area) (areaLength e))) Area _ (omega arith) d in
+      let q = one-passes (rungsOf o .key && not (eqb (length key) k)) Klen _ (omega arith) (p .1) in
+      let r = one-passes (rungsOf o .key && allBlank key) Bctl _ (omega arith) (q .1) in
+      let s = one-passes (rungsOf o .blank && blankAreaKey e area) Bctl _ (omega arith) (r .1) in
+      one-passes (rungsOf o .same && otherAreaKey e on key area) Keys behindKeys (omega arith) (s .1)
 
   -- 10
   pub area-key : isMaster e ≡ false → rungsOf o .same ≡ true → areaKeyOn e area on ≡ key
@@ -98,7 +98,7 @@ module _ (o : Operation) (e : Entry) (on link k ref : ℕ) (key area : List ℕ)
   -- 11
   pub link-form : rungsOf o .link ≡ true → (ref ≡ link) ⊎ InSet e ref
   link-form h =
-      let f = passed (rungsOf o .link && not (eqb ref link || inSet e ref)) Ivrp _ (omega arith) (keys-passed .1) .0 in
+      let f = one-passes (rungsOf o .link && not (eqb ref link || inSet e ref)) Ivrp _ (omega arith) (keys-passed .1) .0 in
       split (either _ _ (not-false _ (asked (rungsOf o .link) _ f h)))
     where
       split : (eqb ref link ≡ true) ⊎ (inSet e ref ≡ true) → (ref ≡ link) ⊎ InSet e ref
@@ -107,10 +107,10 @@ module _ (o : Operation) (e : Entry) (on link k ref : ℕ) (key area : List ℕ)
 
   pub number-form : rungsOf o .number ≡ true → InSet e ref
   number-form h =
-      let p = passed (rungsOf o .link && not (eqb ref link || inSet e ref)) Ivrp _ (omega arith) (keys-passed .1) in
-      let q = passed (rungsOf o .sweep && not (leb ref (e .records))) Ivrp _ (omega arith) (p .1) in
-      let r = passed (rungsOf o .last && eqb ref endRef) Ivrp _ (omega arith) (q .1) in
-      inSet-true e ref (not-false _ (asked (rungsOf o .number) _ (passed (rungsOf o .number && not (inSet e ref)) Ivrp Done (omega arith) (r .1) .0) h))
+      let p = one-passes (rungsOf o .link && not (eqb ref link || inSet e ref)) Ivrp _ (omega arith) (keys-passed .1) in
+      let q = one-passes (rungsOf o .sweep && not (leb ref (e .records))) Ivrp _ (omega arith) (p .1) in
+      let r = one-passes (rungsOf o .last && eqb ref endRef) Ivrp _ (omega arith) (q .1) in
+      inSet-true e ref (not-false _ (asked (rungsOf o .number) _ (one-passes (rungsOf o .number && not (inSet e ref)) Ivrp Done (omega arith) (r .1) .0) h))
 
 -- ---- the scene
 

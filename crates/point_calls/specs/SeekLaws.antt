@@ -12,7 +12,7 @@ use Rattle.terms.specs.declared.Status.the-variants.{Done, Ivrp, Mrnf, Damg}
 use Rattle.terms.specs.declared.Operation.{Operation}
 use Rattle.terms.specs.declared.RecordNo.{RecordNo}
 use Rattle.terms.specs.Status.{statusNumber}
-use Rattle.terms.specs.Laws.{status-number-one}
+use Rattle.terms.specs.Laws.{status-number-one, one-passes}
 use Rattle.schema.specs.declared.Path.{Path}
 use Rattle.schema.specs.declared.Entry.{Entry}
 use Rattle.schema.specs.declared.Schema.{Schema}
@@ -27,10 +27,10 @@ use Rattle.calls.specs.Scene.{sceneUnder}
 use Rattle.calls.specs.Ladder.{refusal, isLink}
 use Rattle.calls.specs.Answer.{answered, seekTests, restTests}
 use Rattle.forms.specs.Form.{rungsOf}
-use Rattle.ends.specs.FormFacts.{passed}
 use Rattle.ends.specs.Asks.{Asks, placedOutcome}
 use Rattle.ends.specs.AsksLaws.{given-back, found-among, seek-refuses, seek-passes}
-use Rattle.ends.specs.Ends.{Ends, refused-ends}
+use Rattle.ends.specs.Ends.{Ends}
+use Rattle.ends.specs.EndsLaws.{refused-ends}
 use Rattle.point_calls.specs.declared.Sighted.{Sighted}
 use Rattle.point_calls.specs.OnPath.{PointCall, looksAt, OnPath, seekStatus, sightedOf, Seen, AnswersOnPath, AnswersUnder}
 
@@ -48,17 +48,17 @@ pub seen : {q : List ℕ} {n : ℕ} (b : List ℕ) (e : Entry) (p : Path) (x : E
 unfolding seekStatus
 seen b e p x r key looks s h k w z =
     let d : seekStatus b e p x r key looks ≡ Done = rw (h, k) at (status-number-one (s .status) Done (sym w ∙ z)) in
-    let f = passed (isDamaged (find b x key)) Damg _ (omega arith) d in
-    let g = passed (isMissing (find b x key)) Mrnf _ (omega arith) (f .1) in
+    let f = one-passes (isDamaged (find b x key)) Damg _ (omega arith) d in
+    let g = one-passes (isMissing (find b x key)) Mrnf _ (omega arith) (f .1) in
     rw (h, k) (record { status = d; master = found-one (find b x key) (f .0) (g .0) })
 
 -- a record that was looked at is live and of that key
 pub seen-point : (b : List ℕ) (e : Entry) (p : Path) (x : Entry) (r : ℕ) (key : List ℕ) (m : RecordNo) → Seen b e p x r key true m → isPointOf b e p key r ≡ true
 unfolding seekStatus
 seen-point b e p x r key m h =
-    let f = passed (isDamaged (find b x key)) Damg _ (omega arith) (h .status) in
-    let g = passed (isMissing (find b x key)) Mrnf _ (omega arith) (f .1) in
-    not-false _ (passed (not (isPointOf b e p key r)) Ivrp Done (omega arith) (g .1) .0)
+    let f = one-passes (isDamaged (find b x key)) Damg _ (omega arith) (h .status) in
+    let g = one-passes (isMissing (find b x key)) Mrnf _ (omega arith) (f .1) in
+    not-false _ (one-passes (not (isPointOf b e p key r)) Ivrp Done (omega arith) (g .1) .0)
 
 pub seen-key : (b : List ℕ) (e : Entry) (p : Path) (x : Entry) (r : ℕ) (key : List ℕ) (m : RecordNo) → Seen b e p x r key true m → keyOn b e r p ≡ key
 seen-key b e p x r key m h =

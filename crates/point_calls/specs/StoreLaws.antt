@@ -35,7 +35,8 @@ use Rattle.calls.specs.Ladder.{refusal, otherStoredKey}
 use Rattle.calls.specs.Answer.{answered, restTests}
 use Rattle.terms.specs.Status.{firstOf}
 use Rattle.calls.specs.RestLaws.{storable, rest-writv}
-use Rattle.ends.specs.Ends.{Ends, settled, settled-answers}
+use Rattle.ends.specs.Ends.{Ends, settled}
+use Rattle.ends.specs.EndsLaws.{settled-answers}
 use Rattle.ends.specs.Asks.{Asks}
 use Rattle.records.specs.InBase.{IsPathUnder}
 use Rattle.point_calls.specs.OnPath.{PointCall, addAt, OnPath, Seen, Spotted, AnswersOnPath, AnswersUnder}

@@ -1,5 +1,5 @@
 -- The fields of a record: each lies inside it, and no two have a byte in common.
--- A byte of a record stands in one part of it (the front, a path's fields, a path's linkage fields, the D bytes), and in its part it belongs to
+-- A byte of a record stands in one section of it (the front, a path's fields, a path's linkage fields, the D bytes), and in its section it belongs to
 -- one field (`fieldIn`). So a byte tells its field, and two fields that share a byte are one: that takes a line for each field, not one
 -- for each two.
 use Prim.Native.Nat.{ℕ, _+_, _*_, _-_, _≤_, _<_, max}
@@ -18,35 +18,35 @@ use Rattle.schema.specs.Guarantee.{IsPathOf, SchemaOk}
 use Rattle.schema.specs.PlaceLaws.{order?}
 use Rattle.records.specs.Address.{Field, state, root-next, root-prior, own-key, body, key, prior, next, first, last, offsetOf, sizeOf, HasField}
 
-data Part : Type 0 where
-  front rear : Part
-  path : ℕ → Part
-  link : ℕ → ℕ → Part
+data Section : Type 0 where
+  front rear : Section
+  path : ℕ → Section
+  link : ℕ → ℕ → Section
 
-abbrev partOf : Field → Part
-partOf state = front
-partOf root-next = front
-partOf root-prior = front
-partOf own-key = front
-partOf body = rear
-partOf (key j) = path j
-partOf (prior j) = path j
-partOf (next j) = path j
-partOf (first i j) = link i j
-partOf (last i j) = link i j
+abbrev sectionOf : Field → Section
+sectionOf state = front
+sectionOf root-next = front
+sectionOf root-prior = front
+sectionOf own-key = front
+sectionOf body = rear
+sectionOf (key j) = path j
+sectionOf (prior j) = path j
+sectionOf (next j) = path j
+sectionOf (first i j) = link i j
+sectionOf (last i j) = link i j
 
--- the field to which byte x of a part belongs
-abbrev fieldIn : Schema → Entry → ℕ → Part → Field
+-- the field to which byte x of a section belongs
+abbrev fieldIn : Schema → Entry → ℕ → Section → Field
 fieldIn t e x front = cond (ltb x 4) state (cond (ltb x 8) root-next (cond (ltb x 12) root-prior own-key))
 fieldIn t e x rear = body
 fieldIn t e x (path j) = cond (ltb x (pathOf e j .at + pathOf e j .len)) (key j) (cond (ltb x (pathOf e j .at + pathOf e j .len + 4)) (prior j) (next j))
 fieldIn t e x (link i j) = cond (ltb x (pathOf (entryOf t i) j .link + 4)) (first i j) (last i j)
 
 -- byte x is one of a field's
-abbrev In : Schema → Entry → ℕ → Field → Type 0
-In t e x f = (offsetOf t e f ≤ x) × (x < offsetOf t e f + sizeOf t e f)
+abbrev Inside : Schema → Entry → ℕ → Field → Type 0
+Inside t e x f = (offsetOf t e f ≤ x) × (x < offsetOf t e f + sizeOf t e f)
 
-told : (t : Schema) (e : Entry) (x : ℕ) (f : Field) → In t e x f → fieldIn t e x (partOf f) ≡ f
+told : (t : Schema) (e : Entry) (x : ℕ) (f : Field) → Inside t e x f → fieldIn t e x (sectionOf f) ≡ f
 told t e x state h = rw (lt-ltb x 4 (omega arith))
 told t e x root-next h = rw (le-ltb x 4 (omega arith), lt-ltb x 8 (omega arith))
 told t e x root-prior h = rw (le-ltb x 4 (omega arith), le-ltb x 8 (omega arith), lt-ltb x 12 (omega arith))
@@ -62,17 +62,17 @@ told t e x (last i j) h = rw (le-ltb x (pathOf (entryOf t i) j .link + 4) (omega
 abbrev frontEnd : Entry → ℕ
 frontEnd e = 4 + 8 * (2 - e .kind) + e .key
 
--- byte x stands in a part of a record of set n
-abbrev InPart : Schema → ℕ → ℕ → Part → Type 0
-InPart t n x front = x < frontEnd (entryOf t n)
-InPart t n x rear = entryOf t n .body ≤ x
-InPart t n x (path j) =
+-- byte x stands in a section of a record of set n
+abbrev InSection : Schema → ℕ → ℕ → Section → Type 0
+InSection t n x front = x < frontEnd (entryOf t n)
+InSection t n x rear = entryOf t n .body ≤ x
+InSection t n x (path j) =
     IsPathOf t n j
     × (frontEnd (entryOf t n) ≤ x)
     × (x < entryOf t n .body)
     × (pathOf (entryOf t n) j .at ≤ x)
     × (x < pathOf (entryOf t n) j .at + pathOf (entryOf t n) j .len + 8)
-InPart t n x (link i j) =
+InSection t n x (link i j) =
     (IsPathOf t i j × (pathOf (entryOf t i) j .master .0 ≡ n))
     × (frontEnd (entryOf t n) ≤ x)
     × (x < entryOf t n .body)
@@ -80,8 +80,8 @@ InPart t n x (link i j) =
     × (x < pathOf (entryOf t i) j .link + 8)
 
 -- a field is the D bytes, or has a byte and ends in front of them
-abbrev Ends : Schema → Entry → Field → Type 0
-Ends t e f = ((1 ≤ sizeOf t e f) × (offsetOf t e f + sizeOf t e f ≤ e .body)) ⊎ (f ≡ body)
+abbrev EndsAt : Schema → Entry → Field → Type 0
+EndsAt t e f = ((1 ≤ sizeOf t e f) × (offsetOf t e f + sizeOf t e f ≤ e .body)) ⊎ (f ≡ body)
 
 module _ (t : Schema) (ok : SchemaOk t) (n : ℕ) where
   -- a linkage field in the words of its master
@@ -92,7 +92,7 @@ module _ (t : Schema) (ok : SchemaOk t) (n : ℕ) where
       let k = rw e at (p .same-key) in
       (rw e at (p .master), omega (arith, p, k), rw e at (p .link-inside))
 
-  within : (x : ℕ) (f : Field) → HasField t n f → In t (entryOf t n) x f → InPart t n x (partOf f)
+  within : (x : ℕ) (f : Field) → HasField t n f → Inside t (entryOf t n) x f → InSection t n x (sectionOf f)
   within x state h g = omega arith
   within x root-next h g = omega (arith, ok .master n h)
   within x root-prior h g = omega (arith, ok .master n h)
@@ -116,7 +116,7 @@ module _ (t : Schema) (ok : SchemaOk t) (n : ℕ) where
       go (inr (inl m)) = variable (omega arith)
       go (inr (inr m)) = variable (omega arith)
 
-  one-path : (x j k : ℕ) → InPart t n x (path j) → InPart t n x (path k) → j ≡ k
+  one-path : (x j k : ℕ) → InSection t n x (path j) → InSection t n x (path k) → j ≡ k
   one-path x j k h g = go (order? j k)
     where
       go : (j < k) ⊎ (j ≡ k) ⊎ (k < j) → j ≡ k
@@ -124,7 +124,7 @@ module _ (t : Schema) (ok : SchemaOk t) (n : ℕ) where
       go (inr (inl e)) = e
       go (inr (inr l)) = absurd (omega (arith, ok .variable n (h .0 .0) (h .0 .1) .ordered k j l (h .0 .2)))
 
-  one-link : (x i j k l : ℕ) → InPart t n x (link i j) → InPart t n x (link k l) → (i ≡ k) × (j ≡ l)
+  one-link : (x i j k l : ℕ) → InSection t n x (link i j) → InSection t n x (link k l) → (i ≡ k) × (j ≡ l)
   one-link x i j k l h g = go (ℕ-discrete i k) (ℕ-discrete j l)
     where
       differ : ((i ≡ k) × (j ≡ l) → ⊥) → ⊥
@@ -136,33 +136,33 @@ module _ (t : Schema) (ok : SchemaOk t) (n : ℕ) where
       go (no p) (yes q) = absurd (differ (λ d. p (d .0)))
       go (no p) (no q) = absurd (differ (λ d. p (d .0)))
 
-  -- a byte stands in one part
-  one-part : (x : ℕ) (p q : Part) → n < setCount t → InPart t n x p → InPart t n x q → p ≡ q
-  one-part x front front l h g = refl
-  one-part x front rear l h g = absurd (omega (arith, front-body l))
-  one-part x front (path j) l h g = absurd (omega arith)
-  one-part x front (link i j) l h g = absurd (omega arith)
-  one-part x rear front l h g = absurd (omega (arith, front-body l))
-  one-part x rear rear l h g = refl
-  one-part x rear (path j) l h g = absurd (omega arith)
-  one-part x rear (link i j) l h g = absurd (omega arith)
-  one-part x (path j) front l h g = absurd (omega arith)
-  one-part x (path j) rear l h g = absurd (omega arith)
-  one-part x (path j) (path k) l h g = ap path (one-path x j k h g)
-  one-part x (path j) (link i k) l h g = absurd (omega (arith, link-room i k (g .0 .0) (g .0 .1)))
-  one-part x (link i j) front l h g = absurd (omega arith)
-  one-part x (link i j) rear l h g = absurd (omega arith)
-  one-part x (link i j) (path k) l h g = absurd (omega (arith, link-room i j (h .0 .0) (h .0 .1)))
-  one-part x (link i j) (link k m) l h g = let e = one-link x i j k m h g in ap₂ link (e .0) (e .1)
+  -- a byte stands in one section
+  one-section : (x : ℕ) (p q : Section) → n < setCount t → InSection t n x p → InSection t n x q → p ≡ q
+  one-section x front front l h g = refl
+  one-section x front rear l h g = absurd (omega (arith, front-body l))
+  one-section x front (path j) l h g = absurd (omega arith)
+  one-section x front (link i j) l h g = absurd (omega arith)
+  one-section x rear front l h g = absurd (omega (arith, front-body l))
+  one-section x rear rear l h g = refl
+  one-section x rear (path j) l h g = absurd (omega arith)
+  one-section x rear (link i j) l h g = absurd (omega arith)
+  one-section x (path j) front l h g = absurd (omega arith)
+  one-section x (path j) rear l h g = absurd (omega arith)
+  one-section x (path j) (path k) l h g = ap path (one-path x j k h g)
+  one-section x (path j) (link i k) l h g = absurd (omega (arith, link-room i k (g .0 .0) (g .0 .1)))
+  one-section x (link i j) front l h g = absurd (omega arith)
+  one-section x (link i j) rear l h g = absurd (omega arith)
+  one-section x (link i j) (path k) l h g = absurd (omega (arith, link-room i j (h .0 .0) (h .0 .1)))
+  one-section x (link i j) (link k m) l h g = let e = one-link x i j k m h g in ap₂ link (e .0) (e .1)
 
   -- and so it belongs to one field
-  one-field : (x : ℕ) (f g : Field) → n < setCount t → HasField t n f → HasField t n g → In t (entryOf t n) x f → In t (entryOf t n) x g → f ≡ g
+  one-field : (x : ℕ) (f g : Field) → n < setCount t → HasField t n f → HasField t n g → Inside t (entryOf t n) x f → Inside t (entryOf t n) x g → f ≡ g
   one-field x f g l hf hg p q =
       sym (told t (entryOf t n) x f p)
-      ∙ ap (fieldIn t (entryOf t n) x) (one-part x (partOf f) (partOf g) l (within x f hf p) (within x g hg q))
+      ∙ ap (fieldIn t (entryOf t n) x) (one-section x (sectionOf f) (sectionOf g) l (within x f hf p) (within x g hg q))
       ∙ told t (entryOf t n) x g q
 
-  ends : (f : Field) → n < setCount t → HasField t n f → Ends t (entryOf t n) f
+  ends : (f : Field) → n < setCount t → HasField t n f → EndsAt t (entryOf t n) f
   ends state l h = inl (omega (arith, front-body l))
   ends root-next l h = inl (omega (arith, ok .master n h))
   ends root-prior l h = inl (omega (arith, ok .master n h))
@@ -195,7 +195,7 @@ module _ (t : Schema) (ok : SchemaOk t) (n : ℕ) where
   pub field-inside : (f : Field) → n < setCount t → HasField t n f → offsetOf t (entryOf t n) f + sizeOf t (entryOf t n) f ≤ entryOf t n .size
   field-inside f l h = go (ends f l h)
     where
-      go : Ends t (entryOf t n) f → offsetOf t (entryOf t n) f + sizeOf t (entryOf t n) f ≤ entryOf t n .size
+      go : EndsAt t (entryOf t n) f → offsetOf t (entryOf t n) f + sizeOf t (entryOf t n) f ≤ entryOf t n .size
       go (inl k) = omega (arith, ok .set n l .sized)
       go (inr e) = rw e (omega (arith, ok .set n l .sized))
 
@@ -204,7 +204,7 @@ module _ (t : Schema) (ok : SchemaOk t) (n : ℕ) where
       → Apart (offsetOf t (entryOf t n) f) (sizeOf t (entryOf t n) f) (offsetOf t (entryOf t n) g) (sizeOf t (entryOf t n) g)
   fields-apart f g l hf hg d p q = go (ends f l hf) (ends g l hg)
     where
-      go : Ends t (entryOf t n) f → Ends t (entryOf t n) g → ⊥
+      go : EndsAt t (entryOf t n) f → EndsAt t (entryOf t n) g → ⊥
       go (inl a) (inl b) = d (one-field (max (offsetOf t (entryOf t n) f) (offsetOf t (entryOf t n) g)) f g l hf hg (omega arith) (omega arith))
       go (inl a) (inr b) = omega (arith, rw b at q)
       go (inr a) (inl b) = omega (arith, rw a at p)

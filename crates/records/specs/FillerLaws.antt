@@ -1,7 +1,7 @@
 -- The bytes that are no field: the three zeros behind each record's state, and the room behind the last record of a block. No store to an
 -- address and no sealing reaches them; a store inside a record reaches no leftover room.
-use Prim.Native.Nat.{ℕ, _+_, _*_, _-_, _/_, _%_, _≤_, _<_, min}
-use mathlib.Core.Path.{_≡_, refl, sym}
+use Prim.Native.Nat.{ℕ, _+_, _*_, _-_, _/_, _%_, _≤_, _<_}
+use mathlib.Core.Path.{_≡_, refl}
 use mathlib.Core.Logic.{_⊎_, inl, inr}
 use mathlib.Core.List.{List}
 use native.Mathlib.Omega.{arith}
@@ -10,7 +10,7 @@ use native.Mathlib.Nat.{mod-lt, mul-le-mul-right, div-add-mod'}
 use lib.ListN.{length}
 use Rattle.octets.specs.Octets.{Apart, run, splice}
 use Rattle.octets.specs.SpliceLaws.{run-run, run-splice-out}
-use Rattle.blocks.specs.Blocks.{blockAt, checkAt, seal}
+use Rattle.blocks.specs.Blocks.{checkAt, seal}
 use Rattle.blocks.specs.Laws.{run-seal}
 use Rattle.schema.specs.declared.Entry.{Entry}
 use Rattle.schema.specs.declared.Schema.{Schema}

@@ -10,7 +10,7 @@ ghost use lib.ListN.{length};
 ghost use Rattle.octets.specs.Octets.{run, allZero, sameBytes};
 ghost use Rattle.octets.specs.Below.{allBelow};
 ghost use Rattle.schema.specs.Fields.{mastersOf, setsOf};
-ghost use Rattle.schema.specs.Rules.{isCapitalOrDigit, headRule, nameRule, masterRule, variableRule, countRule, pathRule, slotRule, setRule, entryRule, restRule, namesRule, clash, lettersRule, formRule};
+ghost use Rattle.schema.specs.Rules.{isCapitalOrDigit, headRule, nameRule, masterRule, variableRule, recordsRule, pathRule, slotRule, setRule, entryRule, restRule, namesRule, clash, lettersRule, formRule};
 ghost use Rattle.rules.specs.Parts.{older, apart, bodyRule};
 
 pub mod fields;
@@ -101,7 +101,7 @@ fn kind(s: &[u8], i: usize) -> bool
 // "record count R 8..11, 1..65,535"
 fn count(s: &[u8], i: usize) -> bool
     requires { ⌜ (length (now s) ≡ 512) × (i < 8) ⌝ }
-    ensures { λ r. ⌜ r ≡ countRule (now (s .entry)) i ⌝ }
+    ensures { λ r. ⌜ r ≡ recordsRule (now (s .entry)) i ⌝ }
 {
     let r = octets::word(s, 16 + i * 48 + 8);
     (1 <= r) & (r <= 65535)

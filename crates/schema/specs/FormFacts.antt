@@ -8,7 +8,7 @@ use lib.Dec.{ltb}
 use borrow.Author.Tests.{lt-ltb, ltb-true, leb-true, eqb-true}
 use Rattle.octets.specs.BelowLaws.{allBelow-at}
 use Rattle.schema.specs.Fields.{mastersOf, setsOf, countOf, masterOf}
-use Rattle.schema.specs.Rules.{blockRule, headRule, masterRule, variableRule, countRule, pathRule, slotRule, setRule, entryRule, formRule}
+use Rattle.schema.specs.Rules.{blockRule, headRule, masterRule, variableRule, recordsRule, pathRule, slotRule, setRule, entryRule, formRule}
 use Rattle.schema.specs.Formed.{HeadFormed, SetFormed, Formed}
 
 pub head-ok : (s : List ℕ) → headRule s ≡ true → HeadFormed s
@@ -27,7 +27,7 @@ path-leads s i j l h =
     omega (arith, ltb-true, simp and-eq-true-iff at p)
 
 pub set-formed : (s : List ℕ) (i : ℕ) → setRule s i ≡ true → SetFormed s i
-unfolding setRule countRule
+unfolding setRule recordsRule
 set-formed s i h =
     let t = simp and-eq-true-iff at h in
     let f = few-paths s i (ltb i (mastersOf s)) (t .0 .0 .0 .1) in

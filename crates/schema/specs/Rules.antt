@@ -52,8 +52,8 @@ variableRule s i =
     && eqb (keyLengthOf s i) 0
 
 -- "record count R 8..11, 1..65,535"
-unfoldable pub countRule : List ℕ → ℕ → Bool
-countRule s i = leb 1 (recordsOf s i) && leb (recordsOf s i) 65535
+unfoldable pub recordsRule : List ℕ → ℕ → Bool
+recordsRule s i = leb 1 (recordsOf s i) && leb (recordsOf s i) 65535
 
 -- "letters xx (capitals or digits), master entry number (one byte, 0..M-1), five zeros"
 unfoldable pub pathRule : List ℕ → ℕ → ℕ → Bool
@@ -72,7 +72,7 @@ unfoldable pub setRule : List ℕ → ℕ → Bool
 setRule s i =
     nameRule s i
     && cond (ltb i (mastersOf s)) (masterRule s i) (variableRule s i)
-    && countRule s i
+    && recordsRule s i
     && allZero (run s (entryAt i + 13) 3)
     && allBelow (slotRule s i) 4
 

@@ -145,7 +145,7 @@ pub fn stretch_from(e: Entry, r: RecordNo) -> Stretch
     }
 }
 
-// Those of the next block, where `passed` records are passed: from stretch to stretch there is no division.
+// Those of the next block, where `passed` records are passed: from stretch to stretch nothing is divided by what the schema says.
 pub fn next_stretch(e: Entry, s: Stretch, passed: u32) -> Stretch
     requires { ⌜ (passed ≤ e .records) × (s .at ≤ 2097152) ⌝ }
     ensures { λ n. ⌜ n ≡ nextStretch e s passed ⌝ }

@@ -39,8 +39,8 @@ abbrev Chains : List ℕ → Entry → Path → Entry → Type 0
 Chains b e p x = (m : ℕ) → Live b x m → IsChainOf b e p x m (pathList b e p x m)
 
 -- a record on the chains is on the chain of a master that has its key
-abbrev Chained : List ℕ → Entry → Path → Entry → ℕ → Type 0
-Chained b e p x r = (m : ℕ) × Live b x m × In r (pathList b e p x m) × PointOf b e p x m r
+abbrev OnSomeChain : List ℕ → Entry → Path → Entry → ℕ → Type 0
+OnSomeChain b e p x r = (m : ℕ) × Live b x m × In r (pathList b e p x m) × PointOf b e p x m r
 
 module _ (b : List ℕ) (e : Entry) (p : Path) (x : Entry) (c : Chains b e p x) where
   row-live : (k r : ℕ) → k < x .records → In r (row b e p x k) → Live b x (k + 1) × In r (pathList b e p x (k + 1))
@@ -50,7 +50,7 @@ module _ (b : List ℕ) (e : Entry) (p : Path) (x : Entry) (c : Chains b e p x) 
       by true q m = (((omega arith, omega arith), q), m)
       by false q m = absurd m
 
-  chained : (r : ℕ) → In r (onChains b e p x) → Chained b e p x r
+  chained : (r : ℕ) → In r (onChains b e p x) → OnSomeChain b e p x r
   chained r i =
       let t = gathered-in (row b e p x) (x .records) r i in
       let l = row-live (t .0) r (t .1) (t .2) in
@@ -106,7 +106,7 @@ module _ (b : List ℕ) (e : Entry) (p : Path) (x : Entry) (ms : MasterSet b x) 
   -- with all live records on the chains, the path is sound
   full-sound : Chains b e p x → ((r : ℕ) → Live b e r → In r (onChains b e p x)) → PathSet b e p x
   full-sound c f =
-      let on : (r : ℕ) → Live b e r → Chained b e p x r = λ r l. chained b e p x c r (f r l) in
+      let on : (r : ℕ) → Live b e r → OnSomeChain b e p x r = λ r l. chained b e p x c r (f r l) in
       record {
         no-blank = λ r l. let t = on r l in rw (point-live b e p x (t .0) r (t .3) .1) (ms .no-blank (t .0) (t .1));
         master = λ r l. let t = on r l in (t .0, t .1, sym (point-live b e p x (t .0) r (t .3) .1));
@@ -114,7 +114,7 @@ module _ (b : List ℕ) (e : Entry) (p : Path) (x : Entry) (ms : MasterSet b x) 
         full = λ m l r h. own m r l (point-live b e p x m r h .1) (on r (point-live b e p x m r h .0));
       }
     where
-      own : (m r : ℕ) → Live b x m → keyOn b e r p ≡ masterKey b x m → Chained b e p x r → In r (pathList b e p x m)
+      own : (m r : ℕ) → Live b x m → keyOn b e r p ≡ masterKey b x m → OnSomeChain b e p x r → In r (pathList b e p x m)
       own m r l k t =
           let s : t .0 ≡ m = ms .one (t .0) m (t .1) l (sym (point-live b e p x (t .0) r (t .3) .1) ∙ k) in
           rw s at (t .2)

@@ -10,14 +10,14 @@ use lib.Dec.{leb}
 use borrow.Author.Tests.{leb-true, le-leb, not-true}
 use Rattle.octets.specs.Octets.{allBlank, sameBytes}
 use Rattle.octets.specs.BelowLaws.{same?}
-use Rattle.octets.specs.TestLaws.{never-both, either}
+use Rattle.octets.specs.TestLaws.{never-both, either, either-left, either-right}
 use Rattle.octets.specs.RunLaws.{eq-sameBytes, sameBytes-eq}
 use Rattle.schema.specs.declared.Entry.{Entry}
 use Rattle.schema.specs.Place.{InSet}
 use Rattle.records.specs.Records.{isLive, masterKey}
 use Rattle.sound.specs.Sound.{eachRecord, keysDistinct, homeSound, masterSetSound}
 use Rattle.sound.specs.SoundLaws.{eachRecord-at}
-use Rattle.sound.specs.ListLaws.{either-left, either-right, not-and, and-not, eachRecord-all}
+use Rattle.sound.specs.ListLaws.{not-and, and-not, eachRecord-all}
 
 -- the record r of set e is live
 abbrev pub Live : List ℕ → Entry → ℕ → Type 0

@@ -11,7 +11,7 @@ use lib.ListN.{length}
 use borrow.Author.Tests.{eqb-true, eq-eqb, le-leb}
 use Rattle.octets.specs.Below.{allBelow, sumBelow, countBelow}
 use Rattle.octets.specs.BelowLaws.{allBelow-all, sumBelow-same}
-use Rattle.octets.specs.TestLaws.{never-both, either}
+use Rattle.octets.specs.TestLaws.{never-both, either, either-left, either-right}
 use Rattle.schema.specs.declared.Entry.{Entry}
 use Rattle.schema.specs.Place.{InSet, inSet}
 use Rattle.chains.specs.Members.{All, all-map, In, NoDup, in-gathered, gathered-in, length-gathered, nodup-gathered}
@@ -20,13 +20,6 @@ use Rattle.sound.specs.Sound.{eachRecord, recordsWith, isIn, within, fol
 use Rattle.sound.specs.SoundLaws.{Linked}
 
 -- ---- tests
-
-pub either-left : (a b : Bool) → a ≡ true → (a || b) ≡ true
-either-left a b h = rw h
-
-pub either-right : (a b : Bool) → b ≡ true → (a || b) ≡ true
-either-right true b h = refl
-either-right false b h = h
 
 -- "not a, or b": b where a holds
 pub where-holds : (a b : Bool) → (not a || b) ≡ true → a ≡ true → b ≡ true

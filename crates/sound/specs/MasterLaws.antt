@@ -23,8 +23,8 @@ use Rattle.chains.specs.Segments.{walk-runs-out}
 use Rattle.sound.specs.Sound.{follow, homeList, masterSetSound}
 use Rattle.sound.specs.Linear.{foundAt, isOfHome, nextAnswers, priorEnds, masterInPlace, mastersInPlace}
 use Rattle.sound.specs.SoundLaws.{eachRecord-at, Linked, follow-length}
-use Rattle.sound.specs.ListLaws.{either-left, either-right, where-holds, holds-where, in-set-test, eachRecord-all, run-linked, linked-nodup, linked-next, follow-linked}
-use Rattle.octets.specs.TestLaws.{either}
+use Rattle.sound.specs.ListLaws.{where-holds, holds-where, in-set-test, eachRecord-all, run-linked, linked-nodup, linked-next, follow-linked}
+use Rattle.octets.specs.TestLaws.{either, either-left, either-right}
 use Rattle.sound.specs.KeyLaws.{Live, MasterSet, masterSet-says, masterSet-holds}
 use Rattle.sound.specs.HomeLaws.{FoundAt, foundAt-says, foundAt-holds, seek-follow, seek-linked, OfHome, HomeChain, homeSound-says, homeSound-holds}
 

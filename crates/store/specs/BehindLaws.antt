@@ -14,7 +14,8 @@ use Rattle.calls.specs.Call.{Call}
 use Rattle.calls.specs.Scene.{sceneUnder}
 use Rattle.calls.specs.Answer.{answered}
 use Rattle.ends.specs.AsksLaws.{asks-its-base, asks-its-name, asks-as}
-use Rattle.ends.specs.Ends.{Ends, refused-ends}
+use Rattle.ends.specs.Ends.{Ends}
+use Rattle.ends.specs.EndsLaws.{refused-ends}
 use Rattle.terms.specs.Laws.{not-done}
 use Rattle.ends.specs.Asks.{placedStatus, pastGeneral, placedOutcome, Answers}
 use Rattle.master_calls.specs.Masters.{Places, AnswersOn, AnswersIn}

@@ -21,7 +21,8 @@ use Rattle.ends.specs.Ends.{Ends}
 use Rattle.ends.specs.Asks.{Asks, Answers}
 use Rattle.store.specs.Decides.{Decides, AnswersNamed}
 use Rattle.store.specs.declared.kinds.Kind.{Kind}
-use Rattle.store.specs.Kinds.{operationKind, operationIn, kind-back}
+use Rattle.store.specs.Kinds.{operationKind, operationIn}
+use Rattle.store.specs.KindsLaws.{kind-back}
 use Rattle.store.specs.TopLaws.{size-ends, unknown-ends, format-ends, sound-ends, unsound-ends, outcome-behind}
 
 -- the operation of a kind

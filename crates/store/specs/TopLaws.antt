@@ -23,7 +23,8 @@ use Rattle.calls.specs.Reply.{given, referenceAfter, areaAfter, storesOf, baseA
 use Rattle.calls.specs.Outcome.{done, outcomeIn, outcome}
 use Rattle.calls.specs.Answer.{answered, placeTests, formTests, refusal-groups}
 use Rattle.calls.specs.RestLaws.{rest-sinon, rest-formt}
-use Rattle.ends.specs.Ends.{Ends, refused-ends}
+use Rattle.ends.specs.Ends.{Ends}
+use Rattle.ends.specs.EndsLaws.{refused-ends}
 use Rattle.ends.specs.Asks.{pastGeneral}
 
 -- a schema that breaks a rule

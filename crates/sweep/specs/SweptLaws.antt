@@ -12,7 +12,7 @@ use Rattle.octets.specs.Text.{text}
 use Rattle.terms.specs.declared.Status.{Status}
 use Rattle.terms.specs.declared.Status.the-variants.{Done, Fntf, Area, Ivrp}
 use Rattle.terms.specs.declared.Operation.the-variants.{Rdnxt}
-use Rattle.terms.specs.Laws.{refused-done}
+use Rattle.terms.specs.Laws.{refused-done, one-passes}
 use Rattle.terms.specs.Operation.{operationOf}
 use Rattle.schema.specs.declared.Entry.{Entry}
 use Rattle.schema.specs.declared.Schema.{Schema}
@@ -31,8 +31,9 @@ use Rattle.calls.specs.RestLaws.{rest-rdnxt}
 use Rattle.forms.specs.Form.{formStatus}
 use Rattle.forms.specs.FormLaws.{form-tests, form-link, form-on-unasked}
 use Rattle.ends.specs.AsksLaws.{operationLetters, someone-asks}
-use Rattle.ends.specs.FormFacts.{passed, area-length}
-use Rattle.ends.specs.Ends.{Ends, gave, gave-answers}
+use Rattle.ends.specs.FormFacts.{area-length}
+use Rattle.ends.specs.Ends.{Ends, gave}
+use Rattle.ends.specs.EndsLaws.{gave-answers}
 use Rattle.ends.specs.Asks.{Asks, placedOutcome}
 use Rattle.records.specs.InBase.{Laid, IsSetOf}
 use Rattle.sweep.specs.declared.AnySet.{AnySet}
@@ -71,8 +72,8 @@ module _ (t : Schema) (c : Call) (q : operationOf (c .operation) ≡ Rdnxt) wher
 reference-within : (e : Entry) (on link k ref : ℕ) (key area : List ℕ) → formStatus Rdnxt e on link k ref key area ≡ Done → ref ≤ e .records
 unfolding formStatus
 reference-within e on link k ref key area d =
-    let p = passed (not (eqb (length area) (areaLength e))) Area _ (omega arith) d .1 in
-    leb-true ref (e .records) (not-false _ (passed (not (leb ref (e .records))) Ivrp _ (omega arith) p .0))
+    let p = one-passes (not (eqb (length area) (areaLength e))) Area _ (omega arith) d .1 in
+    leb-true ref (e .records) (not-false _ (one-passes (not (leb ref (e .records))) Ivrp _ (omega arith) p .0))
 
 -- ---- the set that the call speaks of
 

@@ -1,7 +1,7 @@
 -- The laws of keys, references, statuses and operations.
 use Prim.Native.Nat.{ℕ, _+_, _*_, _-_, _%_, _≤_, _<_}
 use mathlib.Core.Path.{_≡_, refl, sym, ap, _∙_}
-use mathlib.Core.Bool.{Bool, true, false}
+use mathlib.Core.Bool.{Bool, true, false, cond}
 use mathlib.Core.List.{List, [], _∷_, _++_}
 use native.Mathlib.Omega.{arith}
 use native.Mathlib.Nat.{mod-lt}
@@ -74,6 +74,20 @@ not-done s h = ne-eqb (statusNumber s) 0 (λ e. omega arith)
 
 pub refused-done : {A : Type 0} {s u : Status} → s ≡ u → 0 < statusNumber u → s ≡ Done → A
 refused-done {u = u} h l d = absurd (let z : statusNumber u ≡ 0 = ap statusNumber (sym h ∙ d) in omega arith)
+
+-- one test that refuses, or two, and the status behind them
+pub one-first : (a : Bool) (s more : Status) → 0 < statusNumber s → cond a s more ≡ firstOf (cond a s Done) more
+one-first true s more h = rw (not-done s h) refl
+one-first false s more h = refl
+
+pub two-first : (a b : Bool) (s u more : Status) → 0 < statusNumber s → 0 < statusNumber u → cond a s (cond b u more) ≡ firstOf (cond a s (cond b u Done)) more
+two-first true b s u more h k = rw (not-done s h) refl
+two-first false b s u more h k = one-first b u more k
+
+-- where all is done, the test has passed
+pub one-passes : (a : Bool) (s more : Status) → 0 < statusNumber s → cond a s more ≡ Done → (a ≡ false) × (more ≡ Done)
+one-passes true s more h e = refused-done refl h e
+one-passes false s more h e = (refl, e)
 
 -- of three statuses the first that refuses
 pub firstOf-assoc : (r s u : Status) → firstOf (firstOf r s) u ≡ firstOf r (firstOf s u)

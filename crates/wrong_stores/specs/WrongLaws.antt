@@ -81,14 +81,14 @@ always-done-3 h =
 
 -- ---- condition 3: sign-on refuses
 
-formatted : (x : Trial) → Formats x → Formatted (x .store) twin (formattedBy (x .store) x)
-formatted x f = (x .base, f, refl)
+by-format : (x : Trial) → Formats x → Formatted (x .store) twin (formattedBy (x .store) x)
+by-format x f = (x .base, f, refl)
 
 refused-3 : (store : Call → Outcome) (b : List ℕ) (calls : List Request) → Differs (signing store b calls) → Formats (signing store b calls) → Condition3 store → ⊥
 unfolding answers
 refused-3 store b calls t f h =
     let x : Trial = signing store b calls in
-    omega (arith, ap (λ (xs : List ℕ). getD xs 0 0) (t .0), ap statusNumber (h .accepted twin (formattedBy store x) calls (inr (formatted x f))))
+    omega (arith, ap (λ (xs : List ℕ). getD xs 0 0) (t .0), ap statusNumber (h .accepted twin (formattedBy store x) calls (inr (by-format x f))))
 
 pub stores-nothing-3 : Condition3 storesNothing → ⊥
 stores-nothing-3 = refused-3 storesNothing _ _ (computed .leaves .0) (computed .leaves .1)
@@ -105,7 +105,7 @@ format-leaves-3 = refused-3 formatLeaves _ _ (computed .formats .0) (computed .f
 kept-at : (x : Trial) (w : Place) (xs : List Point) → Readable x w xs → Condition3 (x .store) → Kept (x .store) twin (leftBy (x .store) x) w bottle xs
 kept-at x w xs p h =
     let b : List ℕ = formattedBy (x .store) x in
-    let f : Formatted (x .store) twin b = formatted x (p .formats) in
+    let f : Formatted (x .store) twin b = by-format x (p .formats) in
     rw (← p .listed) (h .kept twin b (x .calls) (λ i j key. []) (inr f) (h .empty twin b f) w bottle (p .place))
 
 -- READV with LKxx gives the first point of the plain list

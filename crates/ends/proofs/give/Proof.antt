@@ -1,5 +1,5 @@
 use borrow.Author.Needs.{needs}
-use Rattle.ends.specs.Ends.{gave-none, gave-some}
+use Rattle.ends.specs.EndsLaws.{gave-none, gave-some}
 use Rattle.ends.proofs.give.Statement.{statement}
 use Rattle.ends.proofs.give.Tie as tie
 use Rattle.ends.proofs.give.Reads as reads

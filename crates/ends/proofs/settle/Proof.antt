@@ -2,7 +2,7 @@ use mathlib.Core.Path.{sym, ap, _∙_}
 use borrow.Author.Needs.{needs}
 use Rattle.terms.specs.declared.Status.the-variants.{Done}
 use Rattle.terms.specs.Laws.{status-number-one}
-use Rattle.ends.specs.Ends.{settled-refused, settled-done, settled-damaged}
+use Rattle.ends.specs.EndsLaws.{settled-refused, settled-done, settled-damaged}
 use Rattle.ends.proofs.settle.Statement.{statement}
 use Rattle.ends.proofs.settle.Tie as tie
 

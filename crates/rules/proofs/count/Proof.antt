@@ -1,5 +1,5 @@
 -- `rules::count` meets its contract: R's two bounds.
-use Rattle.schema.specs.Rules.{countRule}
+use Rattle.schema.specs.Rules.{recordsRule}
 use borrow.Author.Needs.{needs}
 use Rattle.rules.proofs.count.Tie as tie
 use Rattle.rules.proofs.count.Statement.{statement}
@@ -17,7 +17,7 @@ word-requires : tie.Need-word-requires
 word-requires c κs = search needs
 
 returns : tie.Need-returns
-unfolding countRule
+unfolding recordsRule
 returns c = cc
 
 pub count-spec : {M : Type 1} → statement M

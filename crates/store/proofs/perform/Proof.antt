@@ -1,7 +1,7 @@
 use Prim.Native.Nat.{_*_}
 use lib.ListN.{length}
 use denote.Ref.{now}
-use Rattle.store.specs.Kinds.{master-known, point-known}
+use Rattle.store.specs.KindsLaws.{master-known, point-known}
 use mathlib.Core.Path.{_≡_, refl, ap}
 use native.Mathlib.Omega.{arith}
 use Rattle.store.specs.DecideLaws.{told-kind, decides-unknown, decides-format, decides-sign-on, decides-behind, decides-path}

@@ -12,7 +12,7 @@ use Rattle.terms.specs.declared.Status.the-variants.{Done}
 use Rattle.terms.specs.Status.{statusNumber}
 use Rattle.schema.specs.declared.Path.{Path}
 use Rattle.schema.specs.declared.Part.{Part}
-use Rattle.schema.specs.Decode.{entryOf, pathOf, mastersOn}
+use Rattle.schema.specs.Decode.{entryOf, mastersOn}
 use Rattle.points.specs.Points.{findOn}
 use Rattle.point_plans.specs.declared.Owner.{Owner}
 use Rattle.point_plans.specs.Rest.{otherMasters}

@@ -3,7 +3,8 @@ use native.Mathlib.Omega.{arith}
 use denote.Ref.{now}
 use Rattle.terms.specs.declared.Status.the-variants.{Done}
 use Rattle.terms.specs.Laws.{status-number-one}
-use Rattle.store.specs.Kinds.{masterOperation, master-call}
+use Rattle.store.specs.Kinds.{masterOperation}
+use Rattle.store.specs.KindsLaws.{master-call}
 use Rattle.master_calls.specs.Masters.{Places}
 use Rattle.master_calls.specs.MasterLaws.{places-set}
 use Rattle.store.specs.BehindLaws.{set-refused, set-carried}

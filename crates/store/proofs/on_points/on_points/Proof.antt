@@ -3,7 +3,8 @@ use native.Mathlib.Omega.{arith}
 use denote.Ref.{now}
 use Rattle.terms.specs.declared.Status.the-variants.{Done}
 use Rattle.terms.specs.Laws.{status-number-one}
-use Rattle.store.specs.Kinds.{pointOperation, point-call}
+use Rattle.store.specs.Kinds.{pointOperation}
+use Rattle.store.specs.KindsLaws.{point-call}
 use Rattle.point_calls.specs.OnPath.{Locates}
 use Rattle.point_calls.specs.PathLaws.{locates-path}
 use Rattle.store.specs.BehindLaws.{path-refused, path-carried}
