@@ -12,7 +12,7 @@ use Rattle.octets.specs.Below.{upto, concatBelow}
 use Rattle.terms.specs.declared.Status.{Status}
 use Rattle.terms.specs.Status.{statusNumber}
 use Rattle.terms.specs.declared.Operation.{Operation}
-use Rattle.terms.specs.declared.Operation.the-variants.{Formt, Sinon, AddM, DelM, Readm, Writm, Rqloc, Rdnxt, Readv, Readr, Readd, Writv, Addvc, Addvb, Addva, Delvd, Unknown}
+use Rattle.terms.specs.declared.Operation.the-variants.{Formt, AddM, DelM, Writm, Writv, Delvd}
 use Rattle.schema.specs.declared.Path.{Path}
 use Rattle.schema.specs.declared.Entry.{Entry}
 use Rattle.schema.specs.declared.Schema.{Schema}
@@ -28,10 +28,10 @@ use Rattle.masters.specs.Root.{rootPriorSide, rootNextSide, addMasterStores, sy
 use Rattle.points.specs.Chains.{priorSide, nextSide}
 use Rattle.points.specs.declared.Spot.{Spot}
 use Rattle.points.specs.Points.{addMaster, addLink, addStores, ownMaster, ownLink, delStores}
-use Rattle.calls.specs.Call.{Call, oneOf}
+use Rattle.calls.specs.Call.{Call, oneOf, adds}
 use Rattle.calls.specs.Scene.{Scene, sceneOf}
 use Rattle.calls.specs.Ladder.{ladder, refusal}
-use Rattle.calls.specs.Reply.{masterIn, homeOfKey, given, spotOf, areaAfter, storesBy, storesOf, baseAfter}
+use Rattle.calls.specs.Reply.{masterIn, homeOfKey, fullArea, given, spotOf, areaAfter, writeStores, storesBy, storesOf, baseAfter}
 use Rattle.calls.specs.Outcome.{refused, done, outcomeIn, outcome}
 
 -- ---- runs put together
@@ -181,24 +181,17 @@ module _ (e : Entry) where
       two-sides (pathOf e k) (mastersOn t e k) (ownMaster b t e r k) (l .prior) (l .next) (l .next) (l .prior)))
       (first (nulls (e .size)) none)
 
-a-call : (o : Operation) (x : Scene) (c : Call) → IsBytes (c .base) → IsBytes (c .area) → OfBytes (storesBy o x c)
-a-call AddM x c hb ha = a-addMaster (x .entry) hb ha (homeOfKey x c)
-a-call DelM x c hb ha = a-delMaster (x .entry) hb (homeOfKey x c) (masterIn x)
-a-call Writm x c hb ha = first (part (areaKeys (x .entry)) (x .entry .room) ha) none
-a-call Writv x c hb ha = first (part (areaKeys (x .entry)) (x .entry .room) ha) none
-a-call Addvc x c hb ha = a-add (x .entry) ha (c .base) (x .schema) (spotOf Addvc (c .reference)) (x .on) (lowestFree (c .base) (x .entry))
-a-call Addvb x c hb ha = a-add (x .entry) ha (c .base) (x .schema) (spotOf Addvb (c .reference)) (x .on) (lowestFree (c .base) (x .entry))
-a-call Addva x c hb ha = a-add (x .entry) ha (c .base) (x .schema) (spotOf Addva (c .reference)) (x .on) (lowestFree (c .base) (x .entry))
-a-call Delvd x c hb ha = a-del (x .entry) (c .base) (x .schema) (c .reference)
-a-call Formt x c hb ha = none
-a-call Sinon x c hb ha = none
-a-call Readm x c hb ha = none
-a-call Rqloc x c hb ha = none
-a-call Rdnxt x c hb ha = none
-a-call Readv x c hb ha = none
-a-call Readr x c hb ha = none
-a-call Readd x c hb ha = none
-a-call Unknown x c hb ha = none
+a-call : (o : Operation) (x : Scene) (c : Call) → IsBytes (c .base) → IsBytes (fullArea x c) → OfBytes (storesBy o x c)
+a-call o x c hb ha =
+    choose (oneOf o (AddM ∷ [])) (a-addMaster (x .entry) hb ha (homeOfKey x c))
+    (choose (oneOf o (DelM ∷ [])) (a-delMaster (x .entry) hb (homeOfKey x c) (masterIn x))
+    (choose (oneOf o (Writm ∷ [])) (a-write (masterIn x))
+    (choose (oneOf o (Writv ∷ [])) (a-write (c .reference))
+    (choose (oneOf o adds) (a-add (x .entry) ha (c .base) (x .schema) (spotOf o (c .reference)) (x .on) (lowestFree (c .base) (x .entry)))
+    (choose (oneOf o (Delvd ∷ [])) (a-del (x .entry) (c .base) (x .schema) (c .reference)) none)))))
+  where
+    a-write : (r : ℕ) → OfBytes (writeStores x c r)
+    a-write r = first (part (areaKeys (x .entry)) (x .entry .room) ha) none
 
 -- ---- the outcome
 
@@ -227,9 +220,9 @@ module _ (x : Scene) (c : Call) (hb : IsBytes (c .base)) (ha : IsBytes (c .area)
 pub base-bytes : (c : Call) → Bytes (c .base) → Bytes (c .area) → Bytes (outcome c .base)
 unfolding outcome outcomeIn
 base-bytes c hb ha =
-    base-in (sceneOf c) c (record { each = hb }) (record { each = ha }) (eqb (statusNumber (refusal (ladder (sceneOf c) c))) 0) (refusal (ladder (sceneOf c) c)) .each
+    base-in (sceneOf c) c (record { each = hb }) (record { each = ha }) (eqb (statusNumber (refusal (sceneOf c) c (ladder (sceneOf c)))) 0) (refusal (sceneOf c) c (ladder (sceneOf c))) .each
 
 pub area-bytes : (c : Call) → Bytes (c .base) → Bytes (c .area) → Bytes (outcome c .area)
 unfolding outcome outcomeIn
 area-bytes c hb ha =
-    area-in (sceneOf c) c (record { each = hb }) (record { each = ha }) (eqb (statusNumber (refusal (ladder (sceneOf c) c))) 0) (refusal (ladder (sceneOf c) c)) .each
+    area-in (sceneOf c) c (record { each = hb }) (record { each = ha }) (eqb (statusNumber (refusal (sceneOf c) c (ladder (sceneOf c)))) 0) (refusal (sceneOf c) c (ladder (sceneOf c))) .each
