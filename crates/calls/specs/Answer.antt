@@ -35,13 +35,12 @@ module _ (x : Scene) (c : Call) where
 
   -- the first group that refuses decides
   pub refusal-groups : refusal x c (ladder x)
-      ≡ firstOf (refusal x c generalRungs) (firstOf (refusal x c placeRungs) (firstOf (refusal x c formRungs) (firstOf (refusal x c seekRungs) (refusal x c (restRungs (x .entry .count))))))
+      ≡ firstOf (refusal x c generalRungs) (firstOf (refusal x c placeRungs) (firstOf (refusal x c formRungs) (firstOf (refusal x c seekRungs) (refusal x c (restRungs x)))))
   unfolding ladder
   refusal-groups =
-      let rest = restRungs (x .entry .count) in
-      refusal-append generalRungs (placeRungs ++ (formRungs ++ (seekRungs ++ rest))) (search (tt, lit<))
+      refusal-append generalRungs (placeRungs ++ (formRungs ++ (seekRungs ++ restRungs x))) (search (tt, lit<))
       ∙ ap (firstOf (refusal x c generalRungs))
-      (refusal-append placeRungs (formRungs ++ (seekRungs ++ rest)) (search (tt, lit<))
+      (refusal-append placeRungs (formRungs ++ (seekRungs ++ restRungs x)) (search (tt, lit<))
       ∙ ap (firstOf (refusal x c placeRungs))
-      (refusal-append formRungs (seekRungs ++ rest) (search (tt, lit<))
-      ∙ ap (firstOf (refusal x c formRungs)) (refusal-append seekRungs rest (search (tt, lit<)))))
+      (refusal-append formRungs (seekRungs ++ restRungs x) (search (tt, lit<))
+      ∙ ap (firstOf (refusal x c formRungs)) (refusal-append seekRungs (restRungs x) (search (tt, lit<)))))

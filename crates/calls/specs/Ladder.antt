@@ -251,12 +251,12 @@ finalRungs =
     ∷ []
 
 -- behind the named master and the referenced record
-abbrev pub restRungs : ℕ → List Rung
-restRungs n = StoredKeys ∷ (otherRungs n ++ finalRungs)
+abbrev pub restRungs : Scene → List Rung
+restRungs x = StoredKeys ∷ (otherRungs (x .entry .count) ++ finalRungs)
 
 -- all of them, for a call on this set
 unfoldable pub ladder : Scene → List Rung
-ladder x = generalRungs ++ (placeRungs ++ (formRungs ++ (seekRungs ++ restRungs (x .entry .count))))
+ladder x = generalRungs ++ (placeRungs ++ (formRungs ++ (seekRungs ++ restRungs x)))
 
 -- ---- what they come to
 

@@ -87,7 +87,7 @@ holds-passes x c o q (r ∷ rs) h = go (ruleOf r .asked o) refl (holds-passes x 
 
 module _ (x : Scene) (c : Call) (e : x .operation ≡ Formt) where
   -- behind the three general tests nothing refuses
-  rest-pass : refusal x c (placeRungs ++ (formRungs ++ (seekRungs ++ restRungs (x .entry .count)))) ≡ Done
+  rest-pass : refusal x c (placeRungs ++ (formRungs ++ (seekRungs ++ restRungs x))) ≡ Done
   unfolding storesOf blocksSealed
   rest-pass =
       refusal-passed x c (placeRungs ++ (formRungs ++ (seekRungs ++ (StoredKeys ∷ [])))) (otherRungs (x .entry .count) ++ finalRungs)

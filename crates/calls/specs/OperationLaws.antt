@@ -1,22 +1,24 @@
 -- Laws over all operations: what a test says of each of them is found by trying them one after the other.
-use Prim.Native.Nat.{ℕ, _<_}
+use Prim.Native.Nat.{ℕ, zero, suc, _<_}
 use mathlib.Core.Path.{_≡_, refl, sym, ap, _∙_}
-use mathlib.Core.Bool.{Bool, true, false, cond, not, _&&_, _||_}
-use mathlib.Core.List.{[], _∷_}
+use mathlib.Core.Bool.{Bool, true, false, not, _&&_, _||_, and-eq-true-iff}
+use mathlib.Core.List.{List, [], _∷_}
+use native.Mathlib.Omega.{arith}
 use lib.Dec.{eqb, lit<}
-use lib.ListN.{getD}
+use lib.ListN.{length, getD}
 use borrow.Author.Tests.{eqb-true, not-true}
-use Rattle.octets.specs.Below.{allBelow}
-use Rattle.octets.specs.BelowLaws.{allBelow-at}
 use Rattle.terms.specs.declared.Operation.{Operation}
 use Rattle.terms.specs.declared.Operation.the-variants.{Formt, Sinon, AddM, DelM, Readm, Writm, Rqloc, Rdnxt, Readv, Readr, Readd, Writv, Addvc, Addvb, Addva, Delvd, Unknown}
 use Rattle.calls.specs.Call.{operationNumber, oneOf}
 
 -- ---- an operation and its number
 
-abbrev pub byNumber : ℕ → Operation
-byNumber k =
-    getD (Formt ∷ Sinon ∷ AddM ∷ DelM ∷ Readm ∷ Writm ∷ Rqloc ∷ Rdnxt ∷ Readv ∷ Readr ∷ Readd ∷ Writv ∷ Addvc ∷ Addvb ∷ Addva ∷ Delvd ∷ []) k Unknown
+abbrev operations : List Operation
+operations =
+    Formt ∷ Sinon ∷ AddM ∷ DelM ∷ Readm ∷ Writm ∷ Rqloc ∷ Rdnxt ∷ Readv ∷ Readr ∷ Readd ∷ Writv ∷ Addvc ∷ Addvb ∷ Addva ∷ Delvd ∷ Unknown ∷ []
+
+abbrev byNumber : ℕ → Operation
+byNumber k = getD operations k Unknown
 
 -- the operation comes back, and its number is below 17
 by-number : (u : Operation) → (byNumber (operationNumber u) ≡ u) × (operationNumber u < 17)
@@ -51,11 +53,20 @@ one-of u v h =
 
 -- ---- every operation
 
+abbrev everyOf : (Operation → Bool) → List Operation → Bool
+everyOf f [] = true
+everyOf f (u ∷ us) = f u && everyOf f us
+
 abbrev pub everyOperation : (Operation → Bool) → Bool
-everyOperation f = allBelow (λ k. f (byNumber k)) 17
+everyOperation f = everyOf f operations
+
+every-at : (f : Operation → Bool) (us : List Operation) (k : ℕ) → everyOf f us ≡ true → k < length us → f (getD us k Unknown) ≡ true
+every-at f [] k h l = absurd (omega arith)
+every-at f (u ∷ us) zero h l = and-eq-true-iff (f u) (everyOf f us) .0 h .0
+every-at f (u ∷ us) (suc k) h l = every-at f us k (and-eq-true-iff (f u) (everyOf f us) .0 h .1) (omega arith)
 
 pub each-operation : (f : Operation → Bool) → everyOperation f ≡ true → (u : Operation) → f u ≡ true
-each-operation f h u = sym (ap f (by-number u .0)) ∙ allBelow-at (λ k. f (byNumber k)) 17 (operationNumber u) h (by-number u .1)
+each-operation f h u = sym (ap f (by-number u .0)) ∙ every-at f operations (operationNumber u) h (by-number u .1)
 
 -- a test that all of a group pass, and one that none of it does
 pub all-of : (f g : Operation → Bool) → everyOperation (λ u. not (f u) || g u) ≡ true → (u : Operation) → f u ≡ true → g u ≡ true

@@ -13,7 +13,7 @@ use Rattle.terms.specs.declared.Status.the-variants.{Done}
 use Rattle.terms.specs.Status.{statusNumber}
 use Rattle.calls.specs.Call.{Call, oneOf}
 use Rattle.calls.specs.Scene.{Scene, sceneOf}
-use Rattle.calls.specs.Ladder.{Rung, ruleOf, generalRungs, placeRungs, formRungs, seekRungs, addedRungs, ownRungs, otherRungs, finalRungs, restRungs, ladder, refuses, refusal}
+use Rattle.calls.specs.Ladder.{Rung, ruleOf, generalRungs, placeRungs, formRungs, seekRungs, addedRungs, ownRungs, otherRungs, finalRungs, ladder, refuses, refusal}
 use Rattle.calls.specs.Ladder.Rung.{SchemaRules, BaseLength, KnownCall, SetName, SetKind, PathName, AreaLength, KeyLength, KeyTold, AreaKeysTold, AreaKeySame, ReadForm, SweepForm, LastForm, NumberForm, MasterIntact, MasterThere, MasterNew, ReadPoint, NumberPoint, StoredKeys, AddedIntact, AddedThere, OwnIntact, OwnThere, NoPoints, MasterRoom, PointRoom, SoundBase, NextIntact, PriorIntact, NewMasterIntact, OldMasterIntact, NewPointIntact, OldPointIntact, ChecksTrue}
 use Rattle.plans.specs.Plan.{formatted, committed}
 use Rattle.plans.specs.PlanLaws.{length-committed, length-formatted}
@@ -39,16 +39,14 @@ refusing-below f zero h = tt
 refusing-below f (suc n) h = refusing-append (concatBelow f n) (f n) (refusing-below f n h) (h n)
 
 -- each rung's status is a refusal
-pub rungs-refuse : (n : ℕ) → Refusing (generalRungs ++ (placeRungs ++ (formRungs ++ (seekRungs ++ restRungs n))))
-rungs-refuse n =
+ladder-refuses : (x : Scene) → Refusing (ladder x)
+unfolding ladder
+ladder-refuses x =
+    let n = x .entry .count in
     refusing-append (generalRungs ++ (placeRungs ++ (formRungs ++ (seekRungs ++ (StoredKeys ∷ []))))) (otherRungs n ++ finalRungs) (search (tt, lit<))
     (refusing-append (otherRungs n) finalRungs
     (refusing-append (concatBelow addedRungs n) (concatBelow ownRungs n) (refusing-below addedRungs n (λ k. search (tt, lit<))) (refusing-below ownRungs n (λ k. search (tt, lit<))))
     (search (tt, lit<)))
-
-ladder-refuses : (x : Scene) → Refusing (ladder x)
-unfolding ladder
-ladder-refuses x = rungs-refuse (x .entry .count)
 
 pub done-passes : (x : Scene) (c : Call) (rs : List Rung) → Refusing rs → refusal x c rs ≡ Done → Passes x c rs
 unfolding refusal

@@ -22,7 +22,7 @@ module _ (x : Scene) (c : Call) where
   storable = cond (not (blocksSealed (c .base) (storesOf x c))) Damg Done
 
   rest-short : oneOf (x .operation) adds ≡ false → oneOf (x .operation) (Delvd ∷ []) ≡ false
-      → refusal x c (restRungs (x .entry .count))
+      → refusal x c (restRungs x)
       ≡ cond (oneOf (x .operation) (Writv ∷ []) && otherStoredKey (c .base) (x .entry) (c .reference) (c .area)) Keys (refusal x c finalRungs)
   unfolding refusal
   rest-short h k =
@@ -31,59 +31,59 @@ module _ (x : Scene) (c : Call) where
 
   -- ---- calls that store nothing
 
-  pub rest-readm : x .operation ≡ Readm → refusal x c (restRungs (x .entry .count)) ≡ Done
+  pub rest-readm : x .operation ≡ Readm → refusal x c (restRungs x) ≡ Done
   unfolding refusal storesOf blocksSealed
   rest-readm e = rest-short (rw e refl) (rw e refl) ∙ rw e refl
 
-  pub rest-rdnxt : x .operation ≡ Rdnxt → refusal x c (restRungs (x .entry .count)) ≡ Done
+  pub rest-rdnxt : x .operation ≡ Rdnxt → refusal x c (restRungs x) ≡ Done
   unfolding refusal storesOf blocksSealed
   rest-rdnxt e = rest-short (rw e refl) (rw e refl) ∙ rw e refl
 
-  pub rest-rqloc : x .operation ≡ Rqloc → refusal x c (restRungs (x .entry .count)) ≡ Done
+  pub rest-rqloc : x .operation ≡ Rqloc → refusal x c (restRungs x) ≡ Done
   unfolding refusal storesOf blocksSealed
   rest-rqloc e = rest-short (rw e refl) (rw e refl) ∙ rw e refl
 
-  pub rest-readd : x .operation ≡ Readd → refusal x c (restRungs (x .entry .count)) ≡ Done
+  pub rest-readd : x .operation ≡ Readd → refusal x c (restRungs x) ≡ Done
   unfolding refusal storesOf blocksSealed
   rest-readd e = rest-short (rw e refl) (rw e refl) ∙ rw e refl
 
-  pub rest-formt : x .operation ≡ Formt → refusal x c (restRungs (x .entry .count)) ≡ Done
+  pub rest-formt : x .operation ≡ Formt → refusal x c (restRungs x) ≡ Done
   unfolding refusal storesOf blocksSealed
   rest-formt e = rest-short (rw e refl) (rw e refl) ∙ rw e refl
 
-  pub rest-sinon : x .operation ≡ Sinon → refusal x c (restRungs (x .entry .count)) ≡ cond (not (sound (x .schema) (c .base))) Damg Done
+  pub rest-sinon : x .operation ≡ Sinon → refusal x c (restRungs x) ≡ cond (not (sound (x .schema) (c .base))) Damg Done
   unfolding refusal storesOf blocksSealed
   rest-sinon e = rest-short (rw e refl) (rw e refl) ∙ rw e refl
 
   pub rest-readv : x .operation ≡ Readv
-      → refusal x c (restRungs (x .entry .count)) ≡ cond (readDamaged (c .base) (x .entry) (x .path) (x .masters) (masterIn x) (c .key) (isLink x c) (forward x c)) Damg Done
+      → refusal x c (restRungs x) ≡ cond (readDamaged (c .base) (x .entry) (x .path) (x .masters) (masterIn x) (c .key) (isLink x c) (forward x c)) Damg Done
   unfolding refusal storesOf blocksSealed
   rest-readv e = rest-short (rw e refl) (rw e refl) ∙ rw e refl
 
   pub rest-readr : x .operation ≡ Readr
-      → refusal x c (restRungs (x .entry .count)) ≡ cond (readDamaged (c .base) (x .entry) (x .path) (x .masters) (masterIn x) (c .key) (isLink x c) (backward x c)) Damg Done
+      → refusal x c (restRungs x) ≡ cond (readDamaged (c .base) (x .entry) (x .path) (x .masters) (masterIn x) (c .key) (isLink x c) (backward x c)) Damg Done
   unfolding refusal storesOf blocksSealed
   rest-readr e = rest-short (rw e refl) (rw e refl) ∙ rw e refl
 
   -- ---- calls that store
 
-  pub rest-writm : x .operation ≡ Writm → refusal x c (restRungs (x .entry .count)) ≡ storable
+  pub rest-writm : x .operation ≡ Writm → refusal x c (restRungs x) ≡ storable
   unfolding refusal
   rest-writm e = rest-short (rw e refl) (rw e refl) ∙ rw e refl
 
   pub rest-writv : x .operation ≡ Writv
-      → refusal x c (restRungs (x .entry .count)) ≡ cond (otherStoredKey (c .base) (x .entry) (c .reference) (c .area)) Keys storable
+      → refusal x c (restRungs x) ≡ cond (otherStoredKey (c .base) (x .entry) (c .reference) (c .area)) Keys storable
   unfolding refusal
   rest-writv e = rest-short (rw e refl) (rw e refl) ∙ rw e refl
 
   pub rest-addm : x .operation ≡ AddM
-      → refusal x c (restRungs (x .entry .count))
+      → refusal x c (restRungs x)
       ≡ cond (addMasterFull (c .base) (x .entry) (homeOfKey x c)) Full (cond (addMasterDamaged (c .base) (x .entry) (homeOfKey x c)) Damg storable)
   unfolding refusal
   rest-addm e = rest-short (rw e refl) (rw e refl) ∙ rw e refl
 
   pub rest-delm : x .operation ≡ DelM
-      → refusal x c (restRungs (x .entry .count))
+      → refusal x c (restRungs x)
       ≡ cond (hasPoints (x .schema) (c .base) (x .number) (masterIn x)) Imdl
       (cond (delMasterDamaged (c .base) (x .entry) (homeOfKey x c) (masterIn x)) Damg storable)
   unfolding refusal

@@ -28,10 +28,10 @@ use Rattle.masters.specs.Root.{addMasterFull}
 use Rattle.points.specs.Chains.{isPointOf, hasPoints}
 use Rattle.points.specs.Points.{findOn}
 use Rattle.sound.specs.KeyLaws.{Live}
-use Rattle.calls.specs.Call.{Call, oneOf, variableCalls, adds}
+use Rattle.calls.specs.Call.{Call, oneOf, variableCalls, adds, wholeCalls}
 use Rattle.calls.specs.Scene.{Scene, sceneUnder}
 use Rattle.schema.specs.Naming.{setNamed, pathNamed}
-use Rattle.calls.specs.Ladder.{on, otherStoredKey, parameterTests, foundTests, masterTests, otherMasterTests}
+use Rattle.calls.specs.Ladder.{on, otherStoredKey, parameterTests, foundTests, masterTests, otherMasterTests, needers, finders, keyRepeaters, numbered}
 use Rattle.calls.specs.LadderLaws.{Passes}
 use Rattle.calls.specs.Reply.{masterIn, homeOfKey, spotOf}
 use Rattle.kept_state.specs.Tests.{AddMasterTests, DelMasterTests, WriteMasterTests, SpotOk, AddTests, DelTests, WriteTests}
@@ -91,13 +91,13 @@ module _ (t : Schema) (ok : SchemaOk t) (c : Call) where
   home-master q = rw q refl
 
   module _ (p : Passes (parameterTests x c)) (f : Passes (foundTests x c)) where
-    not-damaged : oneOf o (AddM ∷ DelM ∷ Readm ∷ Writm ∷ variableCalls) ≡ true → isDamaged (x .found) ≡ false
+    not-damaged : oneOf o finders ≡ true → isDamaged (x .found) ≡ false
     unfolding sceneUnder
-    not-damaged q = asked (oneOf o (AddM ∷ DelM ∷ Readm ∷ Writm ∷ variableCalls)) _ (f .0) q
+    not-damaged q = asked (oneOf o finders) _ (f .0) q
 
-    not-missing : oneOf o (DelM ∷ Readm ∷ Writm ∷ variableCalls) ≡ true → isMissing (x .found) ≡ false
+    not-missing : oneOf o needers ≡ true → isMissing (x .found) ≡ false
     unfolding sceneUnder
-    not-missing q = asked (oneOf o (DelM ∷ Readm ∷ Writm ∷ variableCalls)) _ (f .1 .0) q
+    not-missing q = asked (oneOf o needers) _ (f .1 .0) q
 
     pub add-master-tests : o ≡ AddM → on x (AddM ∷ []) Full (addMasterFull (c .base) (x .entry) (homeOfKey x c)) .refuses ≡ false → AddMasterTests t (c .base) n (c .key) (c .area)
     unfolding sceneUnder
@@ -114,7 +114,7 @@ module _ (t : Schema) (ok : SchemaOk t) (c : Call) where
           room = rw (home-master (rw q refl)) at (asked (oneOf o (AddM ∷ [])) (addMasterFull (c .base) e (homeOfKey x c)) h (rw q refl));
         }
 
-    found-at : oneOf o (AddM ∷ DelM ∷ Readm ∷ Writm ∷ variableCalls) ≡ true → oneOf o (DelM ∷ Readm ∷ Writm ∷ variableCalls) ≡ true → isAt (x .found) ≡ true
+    found-at : oneOf o finders ≡ true → oneOf o needers ≡ true → isAt (x .found) ≡ true
     found-at q r = at-left (x .found) (not-damaged q) (not-missing r)
 
     pub del-master-tests : o ≡ DelM → on x (DelM ∷ []) Imdl (hasPoints (x .schema) (c .base) (x .number) (masterIn x)) .refuses ≡ false → DelMasterTests t (c .base) n (c .key)
@@ -137,17 +137,17 @@ module _ (t : Schema) (ok : SchemaOk t) (c : Call) where
         }
 
     -- the master of a call on points
-    pub point-master : oneOf o variableCalls ≡ true → oneOf o (AddM ∷ DelM ∷ Readm ∷ Writm ∷ variableCalls) ≡ true → oneOf o (DelM ∷ Readm ∷ Writm ∷ variableCalls) ≡ true
+    pub point-master : oneOf o variableCalls ≡ true → oneOf o finders ≡ true → oneOf o needers ≡ true
         → isAt (findOn (c .base) t e j (c .key)) ≡ true
     point-master v q r = rw (found-point v) at (found-at q r)
 
     -- the referenced record
-    referenced : oneOf o (Readd ∷ Writv ∷ Addvb ∷ Addva ∷ Delvd ∷ []) ≡ true
+    referenced : oneOf o numbered ≡ true
         → Live (c .base) e (c .reference) × (keyOn (c .base) e (c .reference) (pathOf e j) ≡ c .key)
     unfolding sceneUnder
     referenced q =
         let a = point-told (c .base) e (pathOf e j) (c .key) (c .reference)
-        (not-false _ (asked (oneOf o (Readd ∷ Writv ∷ Addvb ∷ Addva ∷ Delvd ∷ [])) _ (f .1 .1 .1 .1 .0) q)) in
+        (not-false _ (asked (oneOf o numbered) _ (f .1 .1 .1 .1 .0) q)) in
         ((number-told t ok c p q, a .0), a .1)
 
     pub del-tests : o ≡ Delvd → DelTests t (c .base) n (c .reference)
@@ -168,7 +168,7 @@ module _ (t : Schema) (ok : SchemaOk t) (c : Call) where
 
     -- ---- the adds
 
-    same-key : oneOf o adds ≡ true → oneOf o (AddM ∷ Writm ∷ adds) ≡ true → isMaster e ≡ false → areaKeyOn e (c .area) j ≡ c .key
+    same-key : oneOf o adds ≡ true → oneOf o keyRepeaters ≡ true → isMaster e ≡ false → areaKeyOn e (c .area) j ≡ c .key
     same-key q r m = same-path-key e j (c .key) (c .area) m (area-key-same t ok c p r)
 
     named-found : areaKeyOn e (c .area) j ≡ c .key → isAt (findOn (c .base) t e j (c .key)) ≡ true → (i : ℕ) → i ≡ j → isAt (findOn (c .base) t e i (areaKeyOn e (c .area) i)) ≡ true
@@ -185,7 +185,7 @@ module _ (t : Schema) (ok : SchemaOk t) (c : Call) where
     abbrev Spots : Operation → Type 0
     Spots u = o ≡ u → areaKeyOn e (c .area) j ≡ c .key → SpotOk t (c .base) n j (c .area) (spotOf u (c .reference))
 
-    beside : (u : Operation) → oneOf u (Readd ∷ Writv ∷ Addvb ∷ Addva ∷ Delvd ∷ []) ≡ true → o ≡ u → areaKeyOn e (c .area) j ≡ c .key
+    beside : (u : Operation) → oneOf u numbered ≡ true → o ≡ u → areaKeyOn e (c .area) j ≡ c .key
         → Live (c .base) e (c .reference) × (keyOn (c .base) e (c .reference) (pathOf e j) ≡ areaKeyOn e (c .area) j)
     beside u h q k = let r = referenced (rw q h) in (r .0, r .1 ∙ sym k)
 
@@ -212,10 +212,10 @@ module _ (t : Schema) (ok : SchemaOk t) (c : Call) where
         → on x adds Full (isFull (c .base) (x .entry)) .refuses ≡ false → AddTests t (c .base) n j (c .area) (spotOf u (c .reference))
     unfolding sceneUnder
     add-tests u q a h full =
-        let fs : oneOf o (Formt ∷ Sinon ∷ []) ≡ false = rw q (some-add u a .0) in
+        let fs : oneOf o wholeCalls ≡ false = rw q (some-add u a .0) in
         let v : oneOf o variableCalls ≡ true = rw q (some-add u a .1) in
-        let fi : oneOf o (AddM ∷ DelM ∷ Readm ∷ Writm ∷ variableCalls) ≡ true = rw q (some-add u a .2) in
-        let mi : oneOf o (DelM ∷ Readm ∷ Writm ∷ variableCalls) ≡ true = rw q (some-add u a .3) in
+        let fi : oneOf o finders ≡ true = rw q (some-add u a .2) in
+        let mi : oneOf o needers ≡ true = rw q (some-add u a .3) in
         let m = on-points t ok c p fs v in
         let k = same-key (rw q a) (rw q (some-add u a .4)) (m .1) in
         record {

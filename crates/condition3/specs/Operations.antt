@@ -10,16 +10,16 @@ use borrow.Author.Tests.{eqb-true}
 use Rattle.octets.specs.TestLaws.{never-both}
 use Rattle.terms.specs.declared.Operation.{Operation}
 use Rattle.terms.specs.declared.Operation.the-variants.{Formt, Sinon, AddM, DelM, Readm, Writm, Rqloc, Rdnxt, Readv, Readr, Readd, Writv, Addvc, Addvb, Addva, Delvd, Unknown}
-use Rattle.calls.specs.Call.{operationNumber, oneOf, masterCalls, variableCalls, adds}
-use Rattle.calls.specs.Ladder.{finders}
+use Rattle.calls.specs.Call.{operationNumber, oneOf, masterCalls, variableCalls, adds, wholeCalls}
+use Rattle.calls.specs.Ladder.{finders, needers, arealess, keyBringers, keyRepeaters}
 
 -- ---- calls on masters and on points
 
 -- a call that looks a control key up is on points or on masters
 abbrev pub Kinds : Operation → Type 0
 Kinds u =
-    ((oneOf u variableCalls ≡ true) × (oneOf u (DelM ∷ Readm ∷ Writm ∷ variableCalls) ≡ true) × (oneOf u (Formt ∷ Sinon ∷ []) ≡ false))
-    ⊎ ((oneOf u variableCalls ≡ false) × (oneOf u masterCalls ≡ true) × (oneOf u (Formt ∷ Sinon ∷ []) ≡ false))
+    ((oneOf u variableCalls ≡ true) × (oneOf u needers ≡ true) × (oneOf u wholeCalls ≡ false))
+    ⊎ ((oneOf u variableCalls ≡ false) × (oneOf u masterCalls ≡ true) × (oneOf u wholeCalls ≡ false))
 
 pub kinds : (u : Operation) → oneOf u finders ≡ true → Kinds u
 kinds AddM h = inr (refl, refl, refl)
@@ -76,13 +76,13 @@ one-of u v h = sym (by-number u) ∙ ap byNumber (eqb-true (operationNumber u) (
 
 abbrev pub AddFacts : Operation → Type 0
 AddFacts u =
-    (oneOf u (Formt ∷ Sinon ∷ []) ≡ false)
+    (oneOf u wholeCalls ≡ false)
     × (oneOf u variableCalls ≡ true)
-    × (oneOf u (AddM ∷ DelM ∷ Readm ∷ Writm ∷ variableCalls) ≡ true)
-    × (oneOf u (DelM ∷ Readm ∷ Writm ∷ variableCalls) ≡ true)
-    × (oneOf u (AddM ∷ Writm ∷ adds) ≡ true)
-    × (oneOf u (AddM ∷ adds) ≡ true)
-    × (oneOf u (Formt ∷ Sinon ∷ DelM ∷ Delvd ∷ Rqloc ∷ []) ≡ false)
+    × (oneOf u finders ≡ true)
+    × (oneOf u needers ≡ true)
+    × (oneOf u keyRepeaters ≡ true)
+    × (oneOf u keyBringers ≡ true)
+    × (oneOf u arealess ≡ false)
 
 pub some-add : (u : Operation) → oneOf u adds ≡ true → AddFacts u
 some-add Addvc h = (refl, refl, refl, refl, refl, refl, refl)

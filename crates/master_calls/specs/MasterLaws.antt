@@ -29,8 +29,8 @@ use Rattle.calls.specs.Call.{Call, Outcome, callOf}
 use Rattle.calls.specs.Scene.{sceneUnder}
 use Rattle.schema.specs.Naming.{setNamed, linkOf}
 use Rattle.schema.specs.NamingLaws.{set-named}
-use Rattle.calls.specs.Ladder.{refusal, wrongKind}
-use Rattle.calls.specs.Answer.{answered, placeTests, formTests, seekTests, restTests}
+use Rattle.calls.specs.Ladder.{wrongKind, placeRungs, formRungs, seekRungs, restRungs, refusal}
+use Rattle.calls.specs.Answer.{answered}
 use Rattle.forms.specs.Form.{formStatus}
 use Rattle.forms.specs.FormLaws.{form-tests, form-link, form-on}
 use Rattle.master_calls.specs.declared.Placed.{Placed}
@@ -48,7 +48,7 @@ or-none false s t = refl
 -- the set of the call's name
 module _ (t : Schema) (c : Call) (o : Operation) (k : MasterCall o) (q : operationOf (c .operation) ≡ o) where
   -- 4 and 5
-  pub place-masters : refusal (placeTests (sceneUnder t c) c)
+  pub place-masters : refusal (sceneUnder t c) c placeRungs
       ≡ cond (not (ltb (setNamed t (c .name)) (setCount t))) Fntf (cond (not (isMaster (entryOf t (setNamed t (c .name))))) Kind Done)
   unfolding sceneUnder refusal wrongKind
   place-masters = rw (q, k .on-set, k .of-masters, k .of-no-path) (ap (cond (not (ltb (setNamed t (c .name)) (setCount t))) Fntf) (or-none (not (isMaster (entryOf t (setNamed t (c .name))))) Kind Done))
@@ -59,7 +59,7 @@ module _ (t : Schema) (c : Call) (o : Operation) (k : MasterCall o) (q : operati
 
   -- 7 to 11 by form
   pub form-masters : isMaster (entryOf t (setNamed t (c .name))) ≡ true
-      → refusal (formTests (sceneUnder t c) c)
+      → refusal (sceneUnder t c) c formRungs
       ≡ formStatus o (entryOf t (setNamed t (c .name))) 0 0 (entryOf t (setNamed t (c .name)) .key) (c .reference) (c .key) (c .area)
   unfolding sceneUnder
   form-masters m =
@@ -78,10 +78,10 @@ module _ (t : Schema) (o : Operation) (n : List ℕ) (r : ℕ) (key area : List 
   e = entryOf t (setNamed t n)
 
   -- what every call that asks so has of the tests
-  first-two : (c : Call) → Asks c o n r key area (c .base) → refusal (placeTests (sceneUnder t c) c) ≡ cond (not (ltb i (setCount t))) Fntf (cond (not (isMaster e)) Kind Done)
+  first-two : (c : Call) → Asks c o n r key area (c .base) → refusal (sceneUnder t c) c placeRungs ≡ cond (not (ltb i (setCount t))) Fntf (cond (not (isMaster e)) Kind Done)
   first-two c h = rw (← h .name) (place-masters t c o k (h .operation))
 
-  form-so : isMaster e ≡ true → (c : Call) → Asks c o n r key area (c .base) → refusal (formTests (sceneUnder t c) c) ≡ formStatus o e 0 0 (e .key) r key area
+  form-so : isMaster e ≡ true → (c : Call) → Asks c o n r key area (c .base) → refusal (sceneUnder t c) c formRungs ≡ formStatus o e 0 0 (e .key) r key area
   form-so m c h = rw (← h .name, ← h .reference, ← h .key, ← h .area) (form-masters t c o k (h .operation) (rw (h .name) m))
 
   pub places-set : {p : Placed} → SchemaOk t → p ≡ placedAt t o (setNamed t n) r key area → Places t o n r key area p
@@ -118,7 +118,7 @@ known-set {t} {i = i} laid h = record { schema = t; laid = laid; number = i; amo
 
 module _ (t : Schema) (c : Call) (o : Operation) (k : NamedCall o) (q : operationOf (c .operation) ≡ o) where
   -- "find the named master (16, then 12 ..)"
-  pub seek-masters : refusal (seekTests (sceneUnder t c) c)
+  pub seek-masters : refusal (sceneUnder t c) c seekRungs
       ≡ cond (isDamaged (sceneUnder t c .found)) Damg (cond (isMissing (sceneUnder t c .found)) Mrnf Done)
   unfolding refusal
   seek-masters = rw (operation-here t c, q, k .finds, k .needs-it, k .adds-none, k .call .of-no-link, k .of-no-number) refl
@@ -142,16 +142,16 @@ rqloc-call = record { on-set = refl; of-masters = refl; of-no-path = refl; of-no
 
 -- ADD-M looks for the master that it adds, 13 is "master exists"; RQLOC looks for none
 pub seek-add : (t : Schema) (c : Call) → operationOf (c .operation) ≡ AddM
-    → refusal (seekTests (sceneUnder t c) c) ≡ cond (isDamaged (sceneUnder t c .found)) Damg (cond (isAt (sceneUnder t c .found)) Dupm Done)
+    → refusal (sceneUnder t c) c seekRungs ≡ cond (isDamaged (sceneUnder t c .found)) Damg (cond (isAt (sceneUnder t c .found)) Dupm Done)
 unfolding refusal
 seek-add t c q = rw (operation-here t c, q) refl
 
-pub seek-none : (t : Schema) (c : Call) → operationOf (c .operation) ≡ Rqloc → refusal (seekTests (sceneUnder t c) c) ≡ Done
+pub seek-none : (t : Schema) (c : Call) → operationOf (c .operation) ≡ Rqloc → refusal (sceneUnder t c) c seekRungs ≡ Done
 unfolding refusal
 seek-none t c q = rw (operation-here t c, q) refl
 
 module _ (t : Schema) (c : Call) (n : ℕ) (o : Operation) (e : Entry) (r : ℕ) (key area b : List ℕ) (k : NamedCall o) (h : Asks c o (c .name) r key area b) (at : OnSet t c n e) where
-  sought : (f : Found) → find b e key ≡ f → refusal (seekTests (sceneUnder t c) c) ≡ cond (isDamaged f) Damg (cond (isMissing f) Mrnf Done)
+  sought : (f : Found) → find b e key ≡ f → refusal (sceneUnder t c) c seekRungs ≡ cond (isDamaged f) Damg (cond (isMissing f) Mrnf Done)
   sought f g = seek-masters t c o k (h .operation) ∙ (rw (found-among h t (at .masters), g) refl)
 
   pub damage-ends : find b e key ≡ Damaged → Ends (placedOutcome t c) Damg r area b
@@ -162,13 +162,13 @@ module _ (t : Schema) (c : Call) (n : ℕ) (o : Operation) (e : Entry) (r : ℕ)
 
   -- it is there: what is left decides
   pub found-ends : (m : RecordNo) (u : Outcome) {s : Status} {q : ℕ} {new after : List ℕ} → find b e key ≡ At m
-      → answered (sceneUnder t c) c (refusal (restTests (sceneUnder t c) c)) ≡ u → Ends u s q new after → Ends (placedOutcome t c) s q new after
+      → answered (sceneUnder t c) c (refusal (sceneUnder t c) c (restRungs (sceneUnder t c))) ≡ u → Ends u s q new after → Ends (placedOutcome t c) s q new after
   found-ends m u g w v = seek-passes t c u (sought (At m) g) w v
 
 -- ---- ADD-M
 
 module _ (t : Schema) (c : Call) (n : ℕ) (e : Entry) (r : ℕ) (key area b : List ℕ) (h : Asks c AddM (c .name) r key area b) (at : OnSet t c n e) where
-  sought-add : (f : Found) → find b e key ≡ f → refusal (seekTests (sceneUnder t c) c) ≡ cond (isDamaged f) Damg (cond (isAt f) Dupm Done)
+  sought-add : (f : Found) → find b e key ≡ f → refusal (sceneUnder t c) c seekRungs ≡ cond (isDamaged f) Damg (cond (isAt f) Dupm Done)
   sought-add f g = seek-add t c (h .operation) ∙ (rw (found-among h t (at .masters), g) refl)
 
   pub add-damage-ends : find b e key ≡ Damaged → Ends (placedOutcome t c) Damg r area b
@@ -179,7 +179,7 @@ module _ (t : Schema) (c : Call) (n : ℕ) (e : Entry) (r : ℕ) (key area b : L
 
   -- it is not there: what is left decides
   pub absent-ends : (u : Outcome) {s : Status} {q : ℕ} {new after : List ℕ} → find b e key ≡ Missing
-      → answered (sceneUnder t c) c (refusal (restTests (sceneUnder t c) c)) ≡ u → Ends u s q new after → Ends (placedOutcome t c) s q new after
+      → answered (sceneUnder t c) c (refusal (sceneUnder t c) c (restRungs (sceneUnder t c))) ≡ u → Ends u s q new after → Ends (placedOutcome t c) s q new after
   absent-ends u g w v = seek-passes t c u (sought-add Missing g) w v
 
 -- ---- such a call exists

@@ -8,14 +8,14 @@ use lib.ListN.{length}
 use Rattle.terms.specs.declared.Status.{Status}
 use Rattle.terms.specs.declared.Status.the-variants.{Done, Fntf, Kind}
 use Rattle.terms.specs.declared.Operation.{Operation}
-use Rattle.terms.specs.declared.Operation.the-variants.{Formt, Sinon, AddM, DelM, Readm, Writm}
+use Rattle.terms.specs.declared.Operation.the-variants.{AddM}
 use Rattle.schema.specs.declared.Entry.{Entry}
 use Rattle.schema.specs.declared.Schema.{Schema}
 use Rattle.schema.specs.Decode.{entryOf, setCount}
 use Rattle.records.specs.Areas.{isMaster, areaLength}
-use Rattle.calls.specs.Call.{Call, oneOf, masterCalls, variableCalls}
+use Rattle.calls.specs.Call.{Call, oneOf, masterCalls, variableCalls, wholeCalls}
 use Rattle.calls.specs.Scene.{sceneUnder}
-use Rattle.calls.specs.Ladder.{finders}
+use Rattle.calls.specs.Ladder.{finders, needers}
 use Rattle.forms.specs.Form.{rungsOf, formStatus}
 use Rattle.master_calls.specs.declared.Placed.{Placed}
 use Rattle.ends.specs.Ends.{Ends}
@@ -25,7 +25,7 @@ use Rattle.ends.specs.Asks.{Asks, placedStatus, placedOutcome}
 
 -- a call on masters: the tests that it has and those that it has not
 pub record MasterCall (o : Operation) : Type 0 where
-  pub on-set : oneOf o (Formt ∷ Sinon ∷ []) ≡ false
+  pub on-set : oneOf o wholeCalls ≡ false
   pub of-masters : oneOf o masterCalls ≡ true
   pub of-no-path : oneOf o variableCalls ≡ false
   pub of-no-link : rungsOf o .link ≡ false
@@ -35,7 +35,7 @@ pub record MasterCall (o : Operation) : Type 0 where
 pub record NamedCall (o : Operation) : Type 0 where
   pub call : MasterCall o
   pub finds : oneOf o finders ≡ true
-  pub needs-it : oneOf o (DelM ∷ Readm ∷ Writm ∷ variableCalls) ≡ true
+  pub needs-it : oneOf o needers ≡ true
   pub adds-none : oneOf o (AddM ∷ []) ≡ false
   pub of-no-number : rungsOf o .number ≡ false
 

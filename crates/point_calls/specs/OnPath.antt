@@ -10,7 +10,7 @@ use Rattle.terms.specs.declared.Status.{Status}
 use Rattle.terms.specs.declared.Status.the-variants.{Done, Fntf, Kind, Ivrp, Mrnf, Damg}
 use Rattle.terms.specs.declared.Status.the-variants as refusals
 use Rattle.terms.specs.declared.Operation.{Operation}
-use Rattle.terms.specs.declared.Operation.the-variants.{Formt, Sinon, AddM, DelM, Readm, Writm, Readv, Readr, Addvc, Addvb, Addva}
+use Rattle.terms.specs.declared.Operation.the-variants.{AddM, Readv, Readr, Addvc, Addvb, Addva}
 use Rattle.terms.specs.declared.RecordNo.{RecordNo}
 use Rattle.schema.specs.declared.Path.{Path}
 use Rattle.schema.specs.declared.Entry.{Entry}
@@ -25,10 +25,10 @@ use Rattle.points.specs.declared.Spot.{Spot}
 use Rattle.points.specs.declared.Spot.the-variants.{Last, After, Before}
 use Rattle.points.specs.Chains.{isPointOf}
 use Rattle.point_plans.specs.Within.{SpotIn}
-use Rattle.calls.specs.Call.{Call, oneOf, masterCalls, variableCalls}
+use Rattle.calls.specs.Call.{Call, oneOf, masterCalls, variableCalls, wholeCalls}
 use Rattle.calls.specs.Scene.{sceneUnder}
 use Rattle.schema.specs.Naming.{pathNamed, linkOf}
-use Rattle.calls.specs.Ladder.{finders}
+use Rattle.calls.specs.Ladder.{finders, needers}
 use Rattle.calls.specs.Reply.{spotOf}
 use Rattle.forms.specs.Form.{rungsOf, formStatus}
 use Rattle.ends.specs.Ends.{Ends}
@@ -40,12 +40,12 @@ use Rattle.point_calls.specs.declared.Sighted.{Sighted}
 
 -- a call on points: the tests that it has and those that it has not
 pub record PointCall (o : Operation) : Type 0 where
-  pub on-set : oneOf o (Formt ∷ Sinon ∷ []) ≡ false
+  pub on-set : oneOf o wholeCalls ≡ false
   pub of-no-masters : oneOf o masterCalls ≡ false
   pub of-points : oneOf o variableCalls ≡ true
   pub of-a-key : rungsOf o .key ≡ true
   pub finds : oneOf o finders ≡ true
-  pub needs-it : oneOf o (DelM ∷ Readm ∷ Writm ∷ variableCalls) ≡ true
+  pub needs-it : oneOf o needers ≡ true
   pub adds-none : oneOf o (AddM ∷ []) ≡ false
 
 -- READV goes forward, READR back

@@ -33,8 +33,7 @@ use Rattle.calls.specs.Call.{Call, callOf}
 use Rattle.calls.specs.Scene.{sceneUnder}
 use Rattle.schema.specs.Naming.{setNamed, pathName, pathNamed, linkOf}
 use Rattle.schema.specs.NamingLaws.{set-named, path-named}
-use Rattle.calls.specs.Ladder.{refusal, wrongKind, blankAreaKey, otherAreaKey}
-use Rattle.calls.specs.Answer.{placeTests, formTests}
+use Rattle.calls.specs.Ladder.{wrongKind, blankAreaKey, otherAreaKey, placeRungs, formRungs, refusal}
 use Rattle.forms.specs.Form.{rungsOf, formStatus}
 use Rattle.forms.specs.FormLaws.{form-tests, other-path}
 use Rattle.ends.specs.AsksLaws.{operationLetters, letters-ask, someone-asks}
@@ -122,7 +121,7 @@ module _ (t : Schema) (c : Call) (o : Operation) (k : PointCall o) (q : operatio
   at = pathNamed t set (c .path)
 
   -- 4 to 6
-  place-points : refusal (placeTests (sceneUnder t c) c)
+  place-points : refusal (sceneUnder t c) c placeRungs
       ≡ cond (not (ltb (setNamed t (c .name)) (setCount t))) Fntf (cond (isMaster set) Kind (cond (not (ltb at (set .count))) refusals.Path Done))
   unfolding sceneUnder refusal wrongKind
   place-points = rw (q, k .on-set, k .of-no-masters, k .of-points) refl
@@ -132,7 +131,7 @@ module _ (t : Schema) (c : Call) (o : Operation) (k : PointCall o) (q : operatio
   masters-here = rw (q, k .of-points) refl
 
   -- 7 to 11 by form
-  form-points : refusal (formTests (sceneUnder t c) c) ≡ formStatus o set at (linkOf (pathOf set at)) (mastersOn t set at .key) (c .reference) (c .key) (c .area)
+  form-points : refusal (sceneUnder t c) c formRungs ≡ formStatus o set at (linkOf (pathOf set at)) (mastersOn t set at .key) (c .reference) (c .key) (c .area)
   unfolding sceneUnder
   form-points = form-tests (sceneUnder t c) c ∙ (rw (q, k .of-points) refl)
 

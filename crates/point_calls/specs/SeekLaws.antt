@@ -24,8 +24,8 @@ use Rattle.points.specs.Chains.{isPointOf}
 use Rattle.calls.specs.SceneLaws.{operation-here}
 use Rattle.calls.specs.Call.{Call, Outcome}
 use Rattle.calls.specs.Scene.{sceneUnder}
-use Rattle.calls.specs.Ladder.{refusal, isLink}
-use Rattle.calls.specs.Answer.{answered, seekTests, restTests}
+use Rattle.calls.specs.Ladder.{seekRungs, restRungs, refusal, isLink}
+use Rattle.calls.specs.Answer.{answered}
 use Rattle.forms.specs.Form.{rungsOf}
 use Rattle.ends.specs.Asks.{Asks, placedOutcome}
 use Rattle.ends.specs.AsksLaws.{given-back, found-among, seek-refuses, seek-passes}
@@ -77,7 +77,7 @@ both false i true p = refl
 both false i false p = refl
 
 module _ (t : Schema) (c : Call) (n : ℕ) (o : Operation) (e : Entry) (on : ℕ) (p : Path) (x : Entry) (r : ℕ) (key area b : List ℕ) (k : PointCall o) (h : Asks c o (c .name) r key area b) (at : OnPath t c n e on p x) where
-  seek-points : refusal (seekTests (sceneUnder t c) c)
+  seek-points : refusal (sceneUnder t c) c seekRungs
       ≡ cond (isDamaged (sceneUnder t c .found)) Damg
       (cond (isMissing (sceneUnder t c .found)) Mrnf
       (cond (looksAt o (sceneUnder t c .path) (c .reference) && not (isPointOf (c .base) (sceneUnder t c .entry) (sceneUnder t c .path) (c .key) (c .reference))) Ivrp Done))
@@ -88,7 +88,7 @@ module _ (t : Schema) (c : Call) (n : ℕ) (o : Operation) (e : Entry) (on : ℕ
       (both (rungsOf o .link) (isLink (sceneUnder t c) c) (rungsOf o .number)
       (isPointOf (c .base) (sceneUnder t c .entry) (sceneUnder t c .path) (c .key) (c .reference))))
 
-  sought : refusal (seekTests (sceneUnder t c) c) ≡ seekStatus b e p x r key (looksAt o p r)
+  sought : refusal (sceneUnder t c) c seekRungs ≡ seekStatus b e p x r key (looksAt o p r)
   unfolding seekStatus
   sought = seek-points ∙ (rw (found-among h t (at .masters), at .entry, at .path, h .base, h .key, h .reference) refl)
 
@@ -97,11 +97,11 @@ module _ (t : Schema) (c : Call) (n : ℕ) (o : Operation) (e : Entry) (on : ℕ
 
   -- both are there: what is left decides
   pub seen-ends : (u : Outcome) {s : Status} {q : ℕ} {new after : List ℕ} → seekStatus b e p x r key (looksAt o p r) ≡ Done
-      → answered (sceneUnder t c) c (refusal (restTests (sceneUnder t c) c)) ≡ u → Ends u s q new after → Ends (placedOutcome t c) s q new after
+      → answered (sceneUnder t c) c (refusal (sceneUnder t c) c (restRungs (sceneUnder t c))) ≡ u → Ends u s q new after → Ends (placedOutcome t c) s q new after
   seen-ends u w g v = seek-passes t c u (sought ∙ w) g v
 
   -- the rest refuses
-  pub rest-refuses : (s : Status) → seekStatus b e p x r key (looksAt o p r) ≡ Done → refusal (restTests (sceneUnder t c) c) ≡ s → 0 < statusNumber s
+  pub rest-refuses : (s : Status) → seekStatus b e p x r key (looksAt o p r) ≡ Done → refusal (sceneUnder t c) c (restRungs (sceneUnder t c)) ≡ s → 0 < statusNumber s
       → Ends (placedOutcome t c) s r area b
   rest-refuses s w g z = given-back h (seen-ends _ w refl (refused-ends (sceneUnder t c) c _ s g z))
 

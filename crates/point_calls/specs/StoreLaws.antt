@@ -31,8 +31,8 @@ use Rattle.calls.specs.SceneLaws.{schema-here, operation-here}
 use Rattle.calls.specs.Call.{Call, oneOf}
 use Rattle.calls.specs.Scene.{Scene, sceneUnder}
 use Rattle.calls.specs.Reply.{spotOf, orLink, given, referenceAfter, areaAfter, storesOf}
-use Rattle.calls.specs.Ladder.{refusal, otherStoredKey}
-use Rattle.calls.specs.Answer.{answered, restTests}
+use Rattle.calls.specs.Ladder.{restRungs, refusal, otherStoredKey}
+use Rattle.calls.specs.Answer.{answered}
 use Rattle.terms.specs.Status.{firstOf}
 use Rattle.calls.specs.RestLaws.{storable, rest-writv}
 use Rattle.ends.specs.Ends.{Ends, settled}
@@ -63,11 +63,11 @@ module _ (e : Entry) (p : Path) (x : Entry) (r : ℕ) (key area b : List ℕ) (m
     is-writv : sceneUnder t c .operation ≡ Writv
     is-writv = operation-here t c ∙ h .operation
 
-    writv-rest : refusal (restTests (sceneUnder t c) c) ≡ cond (otherStoredKey b e r area) Keys (storable (sceneUnder t c) c)
+    writv-rest : refusal (sceneUnder t c) c (restRungs (sceneUnder t c)) ≡ cond (otherStoredKey b e r area) Keys (storable (sceneUnder t c) c)
     writv-rest = rest-writv (sceneUnder t c) c is-writv ∙ (rw (at .entry, h .base, h .reference, h .area) refl)
 
     written : otherStoredKey b e r area ≡ false
-        → answered (sceneUnder t c) c (refusal (restTests (sceneUnder t c) c)) ≡ settled Done b (storeRun e r (e .body) (areaBody e area) ∷ []) r r area
+        → answered (sceneUnder t c) c (refusal (sceneUnder t c) c (restRungs (sceneUnder t c))) ≡ settled Done b (storeRun e r (e .body) (areaBody e area) ∷ []) r r area
     written d =
         rw (← h .base, ← h .reference, ← h .area, ← at .entry)
         (settled-answers (sceneUnder t c) c _ Done _ (c .reference) (writv-rest ∙ (rw d refl)) (λ z. writv-stores (sceneUnder t c) c is-writv)
@@ -105,7 +105,7 @@ module _ (e : Entry) (p : Path) (r : ℕ) where
   spotted-after i = record { by-reference = refl; in-set = i; look = refl; looked = λ h. i }
 
 module _ (y : Scene) (c : Call) where
-  add-rest : (spot : Spot) → y .operation ≡ addAt spot → refusal (restTests y c) ≡ firstOf (addable y c) (storable y c)
+  add-rest : (spot : Spot) → y .operation ≡ addAt spot → refusal y c (restRungs (y .entry .count)) ≡ firstOf (addable y c) (storable y c)
   add-rest Last o = rest-addvc y c o
   add-rest (Before r) o = rest-addvb y c o
   add-rest (After r) o = rest-addva y c o
@@ -157,7 +157,7 @@ module _ (t : Schema) (e : Entry) (on : ℕ) (p : Path) (x : Entry) (r : ℕ) (k
     returned : u ≡ Done → referenceAfter (sceneUnder t c) c ≡ after
     returned d = add-after (sceneUnder t c) c spot is-add ∙ (rw (at .entry, h .base) (sym (f d .1)))
 
-    added : answered (sceneUnder t c) c (refusal (restTests (sceneUnder t c) c)) ≡ settled u b xs after r area
+    added : answered (sceneUnder t c) c (refusal (sceneUnder t c) c (restRungs (sceneUnder t c))) ≡ settled u b xs after r area
     added =
         rw (← h .base, ← h .reference, ← h .area)
         (settled-answers (sceneUnder t c) c _ u xs after (add-rest (sceneUnder t c) c spot is-add ∙ ap (λ (z : Status). firstOf z (storable (sceneUnder t c) c)) add-status)
@@ -202,7 +202,7 @@ module _ (t : Schema) (e : Entry) (on : ℕ) (p : Path) (x : Entry) (r : ℕ) (k
     before : referenceAfter (sceneUnder t c) c ≡ after
     before = delvd-after (sceneUnder t c) c is-delvd ∙ (rw (at .entry, at .path, h .base, h .reference) (sym l))
 
-    deleted : answered (sceneUnder t c) c (refusal (restTests (sceneUnder t c) c)) ≡ settled u b xs after r area
+    deleted : answered (sceneUnder t c) c (refusal (sceneUnder t c) c (restRungs (sceneUnder t c))) ≡ settled u b xs after r area
     deleted =
         rw (← h .base, ← h .reference, ← h .area)
         (settled-answers (sceneUnder t c) c _ u xs after (rest-delvd (sceneUnder t c) c is-delvd ∙ ap (λ (z : Status). firstOf z (storable (sceneUnder t c) c)) del-status)

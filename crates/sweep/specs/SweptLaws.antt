@@ -24,9 +24,9 @@ use Rattle.calls.specs.Call.{Call, callOf}
 use Rattle.calls.specs.Scene.{Scene, sceneUnder}
 use Rattle.schema.specs.Naming.{setNamed, linkOf}
 use Rattle.schema.specs.NamingLaws.{set-named}
-use Rattle.calls.specs.Ladder.{refusal, wrongKind}
+use Rattle.calls.specs.Ladder.{wrongKind, placeRungs, formRungs, seekRungs, restRungs, refusal}
 use Rattle.calls.specs.Reply.{orNone, given, referenceAfter, storesOf}
-use Rattle.calls.specs.Answer.{answered, placeTests, formTests, seekTests, restTests}
+use Rattle.calls.specs.Answer.{answered}
 use Rattle.calls.specs.RestLaws.{rest-rdnxt}
 use Rattle.forms.specs.Form.{formStatus}
 use Rattle.forms.specs.FormLaws.{form-tests, form-link, form-on-unasked}
@@ -43,12 +43,12 @@ use Rattle.sweep.specs.Swept.{sweptAt, Sweeps, SweptOn}
 
 module _ (t : Schema) (c : Call) (q : operationOf (c .operation) ≡ Rdnxt) where
   -- 4: both kinds are right, and no path is asked for
-  place-sweep : refusal (placeTests (sceneUnder t c) c) ≡ cond (not (ltb (setNamed t (c .name)) (setCount t))) Fntf Done
+  place-sweep : refusal (sceneUnder t c) c placeRungs ≡ cond (not (ltb (setNamed t (c .name)) (setCount t))) Fntf Done
   unfolding sceneUnder refusal wrongKind
   place-sweep = rw q refl
 
   -- 7 and 11
-  form-sweep : refusal (formTests (sceneUnder t c) c)
+  form-sweep : refusal (sceneUnder t c) c formRungs
       ≡ formStatus Rdnxt (entryOf t (setNamed t (c .name))) 0 0 (entryOf t (setNamed t (c .name)) .key) (c .reference) (c .key) (c .area)
   unfolding sceneUnder
   form-sweep =
@@ -58,7 +58,7 @@ module _ (t : Schema) (c : Call) (q : operationOf (c .operation) ≡ Rdnxt) wher
       ∙ form-link Rdnxt e (e .key) (c .reference) (c .key) (c .area) 0 _ 0 refl))
 
   -- no master is looked for
-  seek-sweep : refusal (seekTests (sceneUnder t c) c) ≡ Done
+  seek-sweep : refusal (sceneUnder t c) c seekRungs ≡ Done
   unfolding sceneUnder refusal
   seek-sweep = rw q refl
 
@@ -85,10 +85,10 @@ module _ (t : Schema) (n : List ℕ) (r : ℕ) (key area : List ℕ) where
   e = entryOf t (setNamed t n)
 
   -- what every call that asks so has of the tests
-  first-one : (c : Call) → Asks c Rdnxt n r key area (c .base) → refusal (placeTests (sceneUnder t c) c) ≡ cond (not (ltb i (setCount t))) Fntf Done
+  first-one : (c : Call) → Asks c Rdnxt n r key area (c .base) → refusal (sceneUnder t c) c placeRungs ≡ cond (not (ltb i (setCount t))) Fntf Done
   first-one c h = rw (← h .name) (place-sweep t c (h .operation))
 
-  form-so : (c : Call) → Asks c Rdnxt n r key area (c .base) → refusal (formTests (sceneUnder t c) c) ≡ formStatus Rdnxt e 0 0 (e .key) r key area
+  form-so : (c : Call) → Asks c Rdnxt n r key area (c .base) → refusal (sceneUnder t c) c formRungs ≡ formStatus Rdnxt e 0 0 (e .key) r key area
   form-so c h = rw (← h .name, ← h .reference, ← h .key, ← h .area) (form-sweep t c (h .operation))
 
   pub sweeps-set : {p : AnySet} → Laid t (512 * t .blocks) → p ≡ sweptAt t (setNamed t n) r key area → Sweeps t n r key area p
@@ -120,10 +120,10 @@ none-within e r = go (ltb (e .records) r) refl
 
 module _ (e : Entry) (r : ℕ) (area b : List ℕ) where
   sweep-gives : (x : Scene) (c : Call) → x .operation ≡ Rdnxt → x .entry ≡ e → c .reference ≡ r → c .base ≡ b → c .area ≡ area
-      → answered x c (refusal (restTests x c)) ≡ gave b e (orNone e (nextLive b e r)) area
+      → answered x c (refusal x c (restRungs x)) ≡ gave b e (orNone e (nextLive b e r)) area
   unfolding given referenceAfter storesOf
   sweep-gives x c o w hr hb ha =
-      rw (← hb, ← ha, ← hr, ← w) (gave-answers x c (refusal (restTests x c)) _ (rest-rdnxt x c o) (rw o refl) (rw o refl) (rw o refl) (rw o refl))
+      rw (← hb, ← ha, ← hr, ← w) (gave-answers x c (refusal x c (restRungs x)) _ (rest-rdnxt x c o) (rw o refl) (rw o refl) (rw o refl) (rw o refl))
 
   pub sweep-ends : {s : Status} {q : ℕ} {new : List ℕ} (g : ℕ) → g ≡ orNone e (nextLive b e r) → Ends (gave b e g area) s q new b → SweptOn e r area b s q new b
   unfolding placedOutcome
