@@ -105,7 +105,7 @@ module _ (e : Entry) (p : Path) (r : ℕ) where
   spotted-after i = record { by-reference = refl; in-set = i; look = refl; looked = λ h. i }
 
 module _ (y : Scene) (c : Call) where
-  add-rest : (spot : Spot) → y .operation ≡ addAt spot → refusal y c (restRungs (y .entry .count)) ≡ firstOf (addable y c) (storable y c)
+  add-rest : (spot : Spot) → y .operation ≡ addAt spot → refusal y c (restRungs y) ≡ firstOf (addable y c) (storable y c)
   add-rest Last o = rest-addvc y c o
   add-rest (Before r) o = rest-addvb y c o
   add-rest (After r) o = rest-addva y c o
