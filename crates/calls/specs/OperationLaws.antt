@@ -77,3 +77,18 @@ all-of f g h u e = asked-or (f u) (g u) (each-operation (λ u. not (f u) || g u)
 
 pub none-of : (f g : Operation → Bool) → everyOperation (λ u. not (f u) || not (g u)) ≡ true → (u : Operation) → f u ≡ true → g u ≡ false
 none-of f g h u e = not-true (g u) (all-of f (λ u. not (g u)) h u e)
+
+-- ---- operation by operation
+
+abbrev pub EachOf : (Operation → Type 0) → List Operation → Type 0
+EachOf P [] = Unit {0}
+EachOf P (v ∷ vs) = P v × EachOf P vs
+
+-- what holds of each of these operations, and of those that are none of them, holds of every one
+pub by-operation : (P : Operation → Type 0) (vs : List Operation) → EachOf P vs → (u : Operation) → (oneOf u vs ≡ false → P u) → P u
+by-operation P [] h u other = other refl
+by-operation P (v ∷ vs) h u other = go (eqb (operationNumber u) (operationNumber v)) refl (by-operation P vs (h .1) u)
+  where
+    go : (b : Bool) → eqb (operationNumber u) (operationNumber v) ≡ b → ((oneOf u vs ≡ false → P u) → P u) → P u
+    go true e more = rw (one-of u v (rw e refl)) (h .0)
+    go false e more = more (λ k. other (rw e k))

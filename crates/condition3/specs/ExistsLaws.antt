@@ -28,7 +28,8 @@ use Rattle.chains.specs.Members.{In}
 use Rattle.sound.specs.KeyLaws.{Live}
 use Rattle.calls.specs.Call.{Call, callOf}
 use Rattle.schema.specs.Naming.{setNamed}
-use Rattle.calls.specs.Ladder.{foundTests}
+use Rattle.calls.specs.Ladder.Rung.{MasterIntact, MasterThere}
+use Rattle.calls.specs.OutcomeLaws.{passed}
 use Rattle.calls.specs.LadderLaws.{Passes}
 use Rattle.calls.specs.Outcome.{done, outcome}
 use Rattle.kept_state.specs.Rows.{PathRows}
@@ -38,7 +39,7 @@ use Rattle.condition3.specs.Plain.{setIn, entryIn}
 use Rattle.condition3.specs.Readings.{Place, setNo, entryNamed, pathNo, IsPlace, Exists, noPathName}
 use Rattle.condition3.specs.PlaceLaws.{place-path}
 use Rattle.condition3.specs.Shown.{Ready}
-use Rattle.condition3.specs.Outcomes.{outcome-done, done-rungs}
+use Rattle.condition3.specs.Outcomes.{foundRungs, outcome-done, done-rungs}
 use Rattle.condition3.specs.ReadTests.{masterScene, master-scene, Granted, readm-passes}
 
 -- ---- a place is a path of the schema
@@ -88,8 +89,8 @@ at-found Damaged d m = absurd (never-both true refl d)
 -- a READM that is done has found a master
 found-by : (c : Call) → c .operation ≡ text "READM" → outcome c .status ≡ Done → (m : ℕ) × Live (c .base) (entryIn c) m × (masterKey (c .base) (entryIn c) m ≡ c .key)
 found-by c o h =
-    let tests : Passes (foundTests (masterScene c) c) = rw (master-scene c o) at (done-rungs c h .found) in
-    let q = at-found (find (c .base) (entryIn c) (c .key)) (tests .0) (tests .1 .0) in
+    let tests : Passes (masterScene c) c foundRungs = rw (master-scene c o) at (done-rungs c h .found) in
+    let q = at-found (find (c .base) (entryIn c) (c .key)) (passed (masterScene c) c foundRungs MasterIntact refl tests) (passed (masterScene c) c foundRungs MasterThere refl tests) in
     let z = find-at (c .base) (entryIn c) (c .key) (q .0) (q .1) in
     (q .0 .0, (z .in-set, z .live), z .keyed)
 

@@ -9,12 +9,12 @@ use Rattle.octets.specs.Octets.{sameBytes}
 use Rattle.terms.specs.declared.Status.{Status}
 use Rattle.terms.specs.Status.{statusNumber}
 use Rattle.terms.specs.declared.Operation.{Operation}
-use Rattle.terms.specs.declared.Operation.the-variants.{Formt, Sinon, AddM, DelM, Readm, Writm, Rqloc, Rdnxt, Readv, Readr, Readd, Writv, Addvc, Addvb, Addva, Delvd, Unknown}
+use Rattle.terms.specs.declared.Operation.the-variants.{Formt, Writv, Addvc, Addvb, Addva, Delvd}
 use Rattle.terms.specs.Operation.{operationOf}
 use Rattle.schema.specs.declared.Entry.{Entry}
 use Rattle.schema.specs.Decode.{entryOf, schemaOf}
 use Rattle.records.specs.Areas.{areaKeyOn}
-use Rattle.calls.specs.Call.{Call}
+use Rattle.calls.specs.Call.{Call, chosen}
 use Rattle.schema.specs.Naming.{setNamed, pathNamed}
 
 -- a point of a chain: the number of its record, and its area
@@ -74,23 +74,16 @@ abbrev pub inSetOf : Call → (List Point → List Point) → Lists → Lists
 inSetOf c f l i j key = cond (eqb i (setIn c)) (f (l i j key)) (l i j key)
 
 abbrev pub stepBy : Operation → Call → ℕ → Lists → Lists
-stepBy Formt c r l = λ i j key. []
-stepBy Addvc c r l = added c r atEnd l
-stepBy Addvb c r l = added c r (before (c .reference)) l
-stepBy Addva c r l = added c r (behind (c .reference)) l
-stepBy Delvd c r l = inSetOf c (takenOut (c .reference)) l
-stepBy Writv c r l = inSetOf c (rewritten (c .reference) (c .area)) l
-stepBy Sinon c r l = l
-stepBy AddM c r l = l
-stepBy DelM c r l = l
-stepBy Readm c r l = l
-stepBy Writm c r l = l
-stepBy Rqloc c r l = l
-stepBy Rdnxt c r l = l
-stepBy Readv c r l = l
-stepBy Readr c r l = l
-stepBy Readd c r l = l
-stepBy Unknown c r l = l
+stepBy o c r l =
+    chosen o
+    ((Formt ∷ [], λ i j key. [])
+    ∷ (Addvc ∷ [], added c r atEnd l)
+    ∷ (Addvb ∷ [], added c r (before (c .reference)) l)
+    ∷ (Addva ∷ [], added c r (behind (c .reference)) l)
+    ∷ (Delvd ∷ [], inSetOf c (takenOut (c .reference)) l)
+    ∷ (Writv ∷ [], inSetOf c (rewritten (c .reference) (c .area)) l)
+    ∷ [])
+    l
 
 -- the step of a call: a refused one changes nothing
 unfoldable pub step : Call → Status → ℕ → Lists → Lists

@@ -23,7 +23,8 @@ use Rattle.plans.specs.Plan.{blocksSealed, formatted}
 use Rattle.sound.specs.Sound.{sound}
 use Rattle.calls.specs.Call.{Call, Outcome, callOf, oneOf}
 use Rattle.calls.specs.Scene.{sceneOf, sceneUnder}
-use Rattle.calls.specs.LadderLaws.{others-pass}
+use Rattle.calls.specs.Ladder.{generalRungs, finalRungs}
+use Rattle.calls.specs.LadderLaws.{others-pass, holds-passes}
 use Rattle.calls.specs.Outcome.{done, outcome, IsOutcome}
 use Rattle.calls.specs.Theorems.{has-outcome, one-outcome}
 use Rattle.calls.specs.Reply.{storesOf, baseAfter}
@@ -37,7 +38,7 @@ use Rattle.condition3.specs.ReadingLaws.{step-unseen, reads-one}
 use Rattle.condition3.specs.PlaceLaws.{place-path}
 use Rattle.condition3.specs.Shown.{shown, Ready}
 use Rattle.octets.specs.TestLaws.{asked}
-use Rattle.condition3.specs.Outcomes.{AllPassed, climbed, outcome-done, done-is, done-rungs}
+use Rattle.condition3.specs.Outcomes.{parameterRungs, foundRungs, AllPassed, climbed, outcome-done, done-is, done-rungs}
 use Rattle.condition3.specs.Quiet.{never-damaged}
 use Rattle.condition3.specs.Turns.{AllRows, Shows}
 use Rattle.condition3.specs.Steps.{status?, call-turned}
@@ -114,11 +115,11 @@ module _ (c : Call) (rows : AllRows) (g : Ready (c .schema) (c .base) rows) (q :
   sign-rungs =
       let z : length (c .base) ≡ schemaOf (c .schema) .blocks * 512 = omega (arith, g .stands .sized) in
       record {
-        general = rw (q, g .rules, eq-eqb _ _ z) (refl, (refl, (refl, tt)));
-        parameters = rw q (refl, (refl, (refl, (refl, (refl, (refl, (refl, (refl, (refl, (refl, (refl, (refl, tt))))))))))));
-        found = rw q (refl, (refl, (refl, (refl, (refl, (refl, tt))))));
-        others = others-pass (sceneOf c) c (rw q refl) (rw q refl);
-        final = rw (q, represents-sound (schemaOf (c .schema)) (c .base) rows (g .world) (g .stands)) (refl, (refl, (refl, (refl, (refl, (refl, (refl, (refl, (refl, (refl, (refl, tt)))))))))));
+        general = holds-passes (sceneOf c) c Sinon q generalRungs (rw (g .rules) refl, (rw (eq-eqb _ _ z) refl, tt));
+        parameters = holds-passes (sceneOf c) c Sinon q parameterRungs tt;
+        found = holds-passes (sceneOf c) c Sinon q foundRungs tt;
+        others = others-pass (sceneOf c) c (rw q refl) (rw q refl) (sceneOf c .entry .count);
+        final = holds-passes (sceneOf c) c Sinon q finalRungs (rw (represents-sound (schemaOf (c .schema)) (c .base) rows (g .world) (g .stands)) refl, (rw q refl, tt));
       }
 
   sign-done : outcome c .status ≡ Done
@@ -133,11 +134,11 @@ module _ (c : Call) (rules : keepsRules (c .schema) ≡ true) (sized : length (c
   format-rungs =
       let z : length (c .base) ≡ schemaOf (c .schema) .blocks * 512 = omega arith in
       record {
-        general = rw (q, rules, eq-eqb _ _ z) (refl, (refl, (refl, tt)));
-        parameters = rw q (refl, (refl, (refl, (refl, (refl, (refl, (refl, (refl, (refl, (refl, (refl, (refl, tt))))))))))));
-        found = rw q (refl, (refl, (refl, (refl, (refl, (refl, tt))))));
-        others = others-pass (sceneOf c) c (rw q refl) (rw q refl);
-        final = rw q (refl, (refl, (refl, (refl, (refl, (refl, (refl, (refl, (refl, (refl, (refl, tt)))))))))));
+        general = holds-passes (sceneOf c) c Formt q generalRungs (rw rules refl, (rw (eq-eqb _ _ z) refl, tt));
+        parameters = holds-passes (sceneOf c) c Formt q parameterRungs tt;
+        found = holds-passes (sceneOf c) c Formt q foundRungs tt;
+        others = others-pass (sceneOf c) c (rw q refl) (rw q refl) (sceneOf c .entry .count);
+        final = holds-passes (sceneOf c) c Formt q finalRungs (rw q refl, tt);
       }
 
   format-done : outcome c .status ≡ Done
