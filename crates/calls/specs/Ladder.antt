@@ -88,7 +88,7 @@ finders = AddM ∷ DelM ∷ Readm ∷ Writm ∷ variableCalls
 abbrev pub needers : List Operation
 needers = DelM ∷ Readm ∷ Writm ∷ variableCalls
 
--- "FORMT, SINON, DEL-M, DELVD and RQLOC ignore the area"
+-- "7 (not DEL-M, DELVD, RQLOC, which ignore the area)"; "FORMT and SINON test no more parameters"
 abbrev pub arealess : List Operation
 arealess = Formt ∷ Sinon ∷ DelM ∷ Delvd ∷ Rqloc ∷ []
 
