@@ -23,7 +23,8 @@ use Rattle.records.specs.Records.{rootNext, rootPrior, isLive}
 use Rattle.records.specs.Areas.{isMaster, areaKeyPlace, areaKeys, liveHead, noLink, keysOn, areaOf, newMaster, newPaths, newVariable}
 use Rattle.plans.specs.Plan.{Store, storeWord, formatted}
 use Rattle.plans.specs.PlanLaws.{AllBytes, bytes-committed, bytes-formatted}
-use Rattle.masters.specs.Find.{heldByOwn, tailFrom, lowestFree}
+use Rattle.scan.specs.Scan.{lowestFree}
+use Rattle.masters.specs.Find.{heldByOwn, tailFrom}
 use Rattle.masters.specs.Root.{rootPriorSide, rootNextSide, addMasterStores, synonymMoves, delMasterStores}
 use Rattle.points.specs.Chains.{priorSide, nextSide}
 use Rattle.points.specs.declared.Spot.{Spot}
@@ -31,7 +32,7 @@ use Rattle.points.specs.Points.{addMaster, addLink, addStores, ownMaster, ownLi
 use Rattle.calls.specs.Call.{Call, oneOf}
 use Rattle.calls.specs.Scene.{Scene, sceneOf}
 use Rattle.calls.specs.Ladder.{ladder, refusal}
-use Rattle.calls.specs.Reply.{masterIn, homeOfKey, given, spotOf, areaAfter, storesBy, storesOf, baseAfter}
+use Rattle.calls.specs.Reply.{masterIn, homeOfKey, given, spotOf, newRecord, areaAfter, storesBy, storesOf, baseAfter}
 use Rattle.calls.specs.Outcome.{refused, done, outcomeIn, outcome}
 
 -- ---- runs put together
@@ -186,9 +187,9 @@ a-call AddM x c hb ha = a-addMaster (x .entry) hb ha (homeOfKey x c)
 a-call DelM x c hb ha = a-delMaster (x .entry) hb (homeOfKey x c) (masterIn x)
 a-call Writm x c hb ha = first (part (areaKeys (x .entry)) (x .entry .room) ha) none
 a-call Writv x c hb ha = first (part (areaKeys (x .entry)) (x .entry .room) ha) none
-a-call Addvc x c hb ha = a-add (x .entry) ha (c .base) (x .schema) (spotOf Addvc (c .reference)) (x .on) (lowestFree (c .base) (x .entry))
-a-call Addvb x c hb ha = a-add (x .entry) ha (c .base) (x .schema) (spotOf Addvb (c .reference)) (x .on) (lowestFree (c .base) (x .entry))
-a-call Addva x c hb ha = a-add (x .entry) ha (c .base) (x .schema) (spotOf Addva (c .reference)) (x .on) (lowestFree (c .base) (x .entry))
+a-call Addvc x c hb ha = a-add (x .entry) ha (c .base) (x .schema) (spotOf Addvc (c .reference)) (x .on) (newRecord Addvc x c)
+a-call Addvb x c hb ha = a-add (x .entry) ha (c .base) (x .schema) (spotOf Addvb (c .reference)) (x .on) (newRecord Addvb x c)
+a-call Addva x c hb ha = a-add (x .entry) ha (c .base) (x .schema) (spotOf Addva (c .reference)) (x .on) (newRecord Addva x c)
 a-call Delvd x c hb ha = a-del (x .entry) (c .base) (x .schema) (c .reference)
 a-call Formt x c hb ha = none
 a-call Sinon x c hb ha = none

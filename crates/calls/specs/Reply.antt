@@ -11,11 +11,12 @@ use Rattle.schema.specs.declared.Entry.{Entry}
 use Rattle.records.specs.Records.{firstOn, lastOn, priorOn, nextOn}
 use Rattle.records.specs.Areas.{areaOf, areaBody}
 use Rattle.plans.specs.Plan.{Store, storeRun, committed, formatted}
-use Rattle.masters.specs.Find.{homeIn, recordFound, lowestFree, nextLive}
+use Rattle.scan.specs.Scan.{nextLive}
+use Rattle.masters.specs.Find.{homeIn, recordFound}
 use Rattle.masters.specs.Root.{addMasterStores, delMasterStores}
 use Rattle.points.specs.declared.Spot.{Spot}
 use Rattle.points.specs.declared.Spot.the-variants.{Last, After, Before}
-use Rattle.points.specs.Points.{addStores, delStores}
+use Rattle.points.specs.Points.{addPlace, addStores, delStores}
 use Rattle.calls.specs.Call.{Call, oneOf}
 use Rattle.calls.specs.Scene.{Scene}
 use Rattle.schema.specs.Naming.{linkOf}
@@ -92,6 +93,10 @@ spotOf Writv r = Last
 spotOf Delvd r = Last
 spotOf Unknown r = Last
 
+-- the number of that record
+abbrev pub newRecord : Operation → Scene → Call → ℕ
+newRecord o x c = addPlace (c .base) (x .schema) (x .entry) (c .area) (spotOf o (c .reference)) (x .on)
+
 -- ---- the reference
 
 -- "No such record: status 0, reference END."
@@ -109,9 +114,9 @@ referenceBy Readv x c = orEnd (given x c)
 referenceBy Readr x c = orEnd (given x c)
 referenceBy Readd x c = orEnd (given x c)
 referenceBy Rqloc x c = homeOfKey x c
-referenceBy Addvc x c = lowestFree (c .base) (x .entry)
-referenceBy Addvb x c = lowestFree (c .base) (x .entry)
-referenceBy Addva x c = lowestFree (c .base) (x .entry)
+referenceBy Addvc x c = newRecord Addvc x c
+referenceBy Addvb x c = newRecord Addvb x c
+referenceBy Addva x c = newRecord Addva x c
 referenceBy Delvd x c = orLink (x .path) (priorOn (c .base) (x .entry) (c .reference) (x .path))
 referenceBy Writv x c = c .reference
 referenceBy Formt x c = c .reference
@@ -137,9 +142,9 @@ storesBy DelM x c = delMasterStores (c .base) (x .entry) (homeOfKey x c) (master
 -- "WRITM and WRITV replace the D bytes."
 storesBy Writm x c = storeRun (x .entry) (masterIn x) (x .entry .body) (areaBody (x .entry) (c .area)) ∷ []
 storesBy Writv x c = storeRun (x .entry) (c .reference) (x .entry .body) (areaBody (x .entry) (c .area)) ∷ []
-storesBy Addvc x c = addStores (c .base) (x .schema) (x .entry) (c .area) (spotOf Addvc (c .reference)) (x .on) (lowestFree (c .base) (x .entry))
-storesBy Addvb x c = addStores (c .base) (x .schema) (x .entry) (c .area) (spotOf Addvb (c .reference)) (x .on) (lowestFree (c .base) (x .entry))
-storesBy Addva x c = addStores (c .base) (x .schema) (x .entry) (c .area) (spotOf Addva (c .reference)) (x .on) (lowestFree (c .base) (x .entry))
+storesBy Addvc x c = addStores (c .base) (x .schema) (x .entry) (c .area) (spotOf Addvc (c .reference)) (x .on) (newRecord Addvc x c)
+storesBy Addvb x c = addStores (c .base) (x .schema) (x .entry) (c .area) (spotOf Addvb (c .reference)) (x .on) (newRecord Addvb x c)
+storesBy Addva x c = addStores (c .base) (x .schema) (x .entry) (c .area) (spotOf Addva (c .reference)) (x .on) (newRecord Addva x c)
 storesBy Delvd x c = delStores (c .base) (x .schema) (x .entry) (c .reference)
 storesBy Formt x c = []
 storesBy Sinon x c = []

@@ -22,10 +22,11 @@ use Rattle.records.specs.Areas.{areaKeyOn}
 use Rattle.plans.specs.Plan.{blocksSealed}
 use Rattle.masters.specs.declared.Found.{Found}
 use Rattle.masters.specs.declared.Found.the-variants.{At, Missing, Damaged}
-use Rattle.masters.specs.Find.{find, homeIn, ownHome, recordFound, isAt, isMissing, isDamaged, isFull, lowestFree}
+use Rattle.scan.specs.Scan.{isFull}
+use Rattle.masters.specs.Find.{find, homeIn, ownHome, recordFound, isAt, isMissing, isDamaged}
 use Rattle.masters.specs.Root.{addMasterFull, addMasterDamaged, delMasterDamaged}
 use Rattle.points.specs.Chains.{readDamaged, hasPoints}
-use Rattle.points.specs.Points.{findOn, addDamaged, delDamaged, addStores}
+use Rattle.points.specs.Points.{findOn, addPlace, addDamaged, delDamaged, addStores}
 use Rattle.calls.specs.Call.{Call, oneOf, adds}
 use Rattle.calls.specs.Scene.{Scene, sceneUnder}
 use Rattle.calls.specs.Ladder.{on, isLink, finders, generalTests, parameterTests, foundTests, masterTests, otherMasterTests, finalTests, ladder}
@@ -174,7 +175,7 @@ module _ (c : Call) (rows : ℕ → ℕ → List ℕ → List ℕ) (g : Ready (c
       module _ (im : on x (DelM ∷ []) Imdl (hasPoints (x .schema) b (x .number) (masterIn x)) .refuses ≡ false)
           (fm : on x (AddM ∷ []) Full (addMasterFull b (x .entry) (homeOfKey x c)) .refuses ≡ false)
           (fa : on x adds Full (isFull b (x .entry)) .refuses ≡ false) where
-        stored-add : (u : Operation) → o ≡ u → oneOf u adds ≡ true → blocksSealed b (addStores b t e (c .area) (spotOf u (c .reference)) j (lowestFree b e)) ≡ true
+        stored-add : (u : Operation) → o ≡ u → oneOf u adds ≡ true → blocksSealed b (addStores b t e (c .area) (spotOf u (c .reference)) j (addPlace b t e (c .area) (spotOf u (c .reference)) j)) ≡ true
         stored-add u q a = add-storable t (g .world) b rows (g .stands) n j (c .area) (spotOf u (c .reference)) (add-tests t (g .world .ok) c p f u q a h fa)
 
         stored : (u : Operation) → o ≡ u → blocksSealed b (storesBy u x c) ≡ true
