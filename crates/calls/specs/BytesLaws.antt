@@ -23,7 +23,8 @@ use Rattle.records.specs.Records.{rootNext, rootPrior, isLive}
 use Rattle.records.specs.Areas.{isMaster, areaKeyPlace, areaKeys, liveHead, noLink, keysOn, areaOf, newMaster, newPaths, newVariable}
 use Rattle.plans.specs.Plan.{Store, storeWord, formatted}
 use Rattle.plans.specs.PlanLaws.{AllBytes, bytes-committed, bytes-formatted}
-use Rattle.masters.specs.Find.{heldByOwn, tailFrom, lowestFree}
+use Rattle.scan.specs.Scan.{lowestFree}
+use Rattle.masters.specs.Find.{heldByOwn, tailFrom}
 use Rattle.masters.specs.Root.{rootPriorSide, rootNextSide, addMasterStores, synonymMoves, delMasterStores}
 use Rattle.points.specs.Chains.{priorSide, nextSide}
 use Rattle.points.specs.declared.Spot.{Spot}
@@ -31,7 +32,7 @@ use Rattle.points.specs.Points.{addMaster, addLink, addStores, ownMaster, ownLi
 use Rattle.calls.specs.Call.{Call, oneOf, adds}
 use Rattle.calls.specs.Scene.{Scene, sceneOf}
 use Rattle.calls.specs.Ladder.{ladder, refusal}
-use Rattle.calls.specs.Reply.{masterIn, homeOfKey, fullArea, given, spotOf, areaAfter, writeStores, storesBy, storesOf, baseAfter}
+use Rattle.calls.specs.Reply.{masterIn, homeOfKey, fullArea, given, spotOf, newRecord, areaAfter, writeStores, storesBy, storesOf, baseAfter}
 use Rattle.calls.specs.Outcome.{refused, done, outcomeIn, outcome}
 
 -- ---- runs put together
@@ -187,7 +188,7 @@ a-call o x c hb ha =
     (choose (oneOf o (DelM ∷ [])) (a-delMaster (x .entry) hb (homeOfKey x c) (masterIn x))
     (choose (oneOf o (Writm ∷ [])) (a-write (masterIn x))
     (choose (oneOf o (Writv ∷ [])) (a-write (c .reference))
-    (choose (oneOf o adds) (a-add (x .entry) ha (c .base) (x .schema) (spotOf o (c .reference)) (x .on) (lowestFree (c .base) (x .entry)))
+    (choose (oneOf o adds) (a-add (x .entry) ha (c .base) (x .schema) (spotOf o (c .reference)) (x .on) (newRecord o x c))
     (choose (oneOf o (Delvd ∷ [])) (a-del (x .entry) (c .base) (x .schema) (c .reference)) none)))))
   where
     a-write : (r : ℕ) → OfBytes (writeStores x c r)

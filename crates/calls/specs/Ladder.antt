@@ -19,8 +19,9 @@ use Rattle.schema.specs.Place.{inSet}
 use Rattle.records.specs.Records.{keyOn}
 use Rattle.records.specs.Areas.{isMaster, areaLength, areaMasterKey, areaKeyOn}
 use Rattle.plans.specs.Plan.{blocksSealed}
+use Rattle.scan.specs.Scan.{isFull}
 use Rattle.masters.specs.declared.Found.{Found}
-use Rattle.masters.specs.Find.{isAt, isMissing, isDamaged, isFull}
+use Rattle.masters.specs.Find.{isAt, isMissing, isDamaged}
 use Rattle.masters.specs.Root.{addMasterFull, addMasterDamaged, delMasterDamaged}
 use Rattle.points.specs.Chains.{isPointOf, readDamaged, hasPoints}
 use Rattle.points.specs.Points.{findOn, addDamaged, delDamaged}

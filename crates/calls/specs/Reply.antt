@@ -11,11 +11,12 @@ use Rattle.schema.specs.declared.Entry.{Entry}
 use Rattle.records.specs.Records.{firstOn, lastOn, priorOn, nextOn}
 use Rattle.records.specs.Areas.{areaOf, areaBody}
 use Rattle.plans.specs.Plan.{Store, storeRun, committed, formatted}
-use Rattle.masters.specs.Find.{homeIn, recordFound, lowestFree, nextLive}
+use Rattle.scan.specs.Scan.{nextLive}
+use Rattle.masters.specs.Find.{homeIn, recordFound}
 use Rattle.masters.specs.Root.{addMasterStores, delMasterStores}
 use Rattle.points.specs.declared.Spot.{Spot}
 use Rattle.points.specs.declared.Spot.the-variants.{Last, After, Before}
-use Rattle.points.specs.Points.{addStores, delStores}
+use Rattle.points.specs.Points.{addPlace, addStores, delStores}
 use Rattle.calls.specs.Call.{Call, oneOf, chosen, adds, reads}
 use Rattle.calls.specs.Scene.{Scene}
 use Rattle.schema.specs.Naming.{linkOf}
@@ -72,6 +73,10 @@ given x c = givenBy (x .operation) x c
 abbrev pub spotOf : Operation → ℕ → Spot
 spotOf o r = chosen o ((Addva ∷ [], After (record { 0 = r })) ∷ (Addvb ∷ [], Before (record { 0 = r })) ∷ []) Last
 
+-- the number of that record
+abbrev pub newRecord : Operation → Scene → Call → ℕ
+newRecord o x c = addPlace (c .base) (x .schema) (x .entry) (fullArea x c) (spotOf o (c .reference)) (x .on)
+
 -- ---- the reference
 
 -- "No such record: status 0, reference END."
@@ -87,7 +92,7 @@ referenceBy o x c =
     chosen o
     ((reads, orEnd (given x c))
     ∷ (Rqloc ∷ [], homeOfKey x c)
-    ∷ (adds, lowestFree (c .base) (x .entry))
+    ∷ (adds, newRecord o x c)
     ∷ (Delvd ∷ [], orLink (x .path) (priorOn (c .base) (x .entry) (c .reference) (x .path)))
     ∷ [])
     (c .reference)
@@ -117,7 +122,7 @@ storesBy o x c =
     ∷ (DelM ∷ [], delMasterStores (c .base) (x .entry) (homeOfKey x c) (masterIn x))
     ∷ (Writm ∷ [], writeStores x c (masterIn x))
     ∷ (Writv ∷ [], writeStores x c (c .reference))
-    ∷ (adds, addStores (c .base) (x .schema) (x .entry) (fullArea x c) (spotOf o (c .reference)) (x .on) (lowestFree (c .base) (x .entry)))
+    ∷ (adds, addStores (c .base) (x .schema) (x .entry) (fullArea x c) (spotOf o (c .reference)) (x .on) (newRecord o x c))
     ∷ (Delvd ∷ [], delStores (c .base) (x .schema) (x .entry) (c .reference))
     ∷ [])
     []

@@ -9,7 +9,8 @@ use Rattle.octets.specs.RunLaws.{sameBytes-eq}
 use Rattle.octets.specs.Octets.{sameBytes}
 use Rattle.schema.specs.Decode.{schemaOf}
 use Rattle.plans.specs.Plan.{formatted}
-use Rattle.masters.specs.Find.{find, lowestFree}
+use Rattle.scan.specs.Scan.{lowestFree}
+use Rattle.masters.specs.Find.{find}
 use Rattle.calls.specs.Outcome.{outcome}
 use Rattle.cases.specs.Small.{smallSchema, bottleCall}
 use Rattle.octets.specs.Octets.{halfAt, wordAt, splice, setWord, every, sumOnto}

@@ -10,7 +10,8 @@ use Rattle.terms.specs.Status.{statusNumber}
 use Rattle.schema.specs.Layout.{lengthOf, totalBlocks}
 use Rattle.schema.specs.Decode.{entryOf, schemaOf}
 use Rattle.plans.specs.Plan.{formatted}
-use Rattle.masters.specs.Find.{find, recordFound, lowestFree}
+use Rattle.scan.specs.Scan.{lowestFree}
+use Rattle.masters.specs.Find.{find, recordFound}
 use Rattle.calls.specs.Call.{Call, Outcome}
 use Rattle.calls.specs.Outcome.{outcome}
 use Rattle.cases.specs.Small.{smallSchema, bottleCall}

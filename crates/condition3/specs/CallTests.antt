@@ -5,7 +5,7 @@ use mathlib.Core.Logic.{_≢_, ⊎-elim}
 use mathlib.Core.Bool.{Bool, true, false, cond, not, and-eq-true-iff}
 use mathlib.Core.List.{List, [], _∷_}
 use lib.Dec.{eqb}
-use borrow.Author.Tests.{ltb-false, not-false, ne-eqb}
+use borrow.Author.Tests.{not-false, ne-eqb}
 use Rattle.octets.specs.Octets.{sameBytes}
 use Rattle.octets.specs.Below.{concatBelow}
 use Rattle.octets.specs.BelowLaws.{allBelow-at, same?}
@@ -22,7 +22,8 @@ use Rattle.records.specs.Records.{isLive, keyOn}
 use Rattle.records.specs.Areas.{isMaster, areaKeyOn}
 use Rattle.masters.specs.declared.Found.{Found}
 use Rattle.masters.specs.declared.Found.the-variants.{At, Missing, Damaged}
-use Rattle.masters.specs.Find.{find, homeIn, recordFound, isAt, isMissing, isDamaged, isFull}
+use Rattle.scan.specs.Scan.{isFull}
+use Rattle.masters.specs.Find.{find, homeIn, recordFound, isAt, isMissing, isDamaged}
 use Rattle.masters.specs.Root.{addMasterFull}
 use Rattle.points.specs.Chains.{isPointOf, hasPoints}
 use Rattle.points.specs.Points.{findOn}
@@ -223,5 +224,5 @@ module _ (t : Schema) (ok : SchemaOk t) (c : Call) where
           no-blank = no-blank-keys e (c .area) (m .1) (area-keys-told t ok c p (rw q (is .brings)));
           found = λ i l. ⊎-elim (λ s. named-found k (point-master v fi mi) i s) (λ d. other-found i l d (rw q a) h) (same? i j);
           spot-ok = spot-told u q k;
-          room = ltb-false _ _ (asked (oneOf o adds) (isFull (c .base) e) full (rw q a));
+          room = asked (oneOf o adds) (isFull (c .base) e) full (rw q a);
         }

@@ -14,7 +14,7 @@ use Rattle.terms.specs.Operation.{operationOf}
 use Rattle.schema.specs.Decode.{setCount, schemaOf}
 use Rattle.schema.specs.Layout.{keepsRules}
 use Rattle.records.specs.Areas.{areaLength}
-use Rattle.masters.specs.Find.{nextLive}
+use Rattle.scan.specs.Scan.{nextLive}
 use Rattle.plans.specs.Plan.{blocksSealed}
 use Rattle.calls.specs.Call.{Call}
 use Rattle.calls.specs.Scene.{sceneUnder, sceneOf}

@@ -20,7 +20,7 @@ use Rattle.records.specs.Records.{isLive, keyOn}
 use Rattle.records.specs.Areas.{areaKeyOn, areaOf}
 use Rattle.records.specs.KindLaws.{is-variable}
 use Rattle.records.specs.RecordLaws.{whole-inside}
-use Rattle.masters.specs.Find.{nextLive}
+use Rattle.scan.specs.Scan.{nextLive}
 use Rattle.chains.specs.Members.{all-in}
 use Rattle.sound.specs.Sound.{recordsWith}
 use Rattle.sound.specs.ListLaws.{recordsWith-in, in-recordsWith, nodup-recordsWith}

@@ -17,8 +17,7 @@ use Rattle.schema.specs.Guarantee.{IsPathOf}
 use Rattle.records.specs.Records.{isLive}
 use Rattle.records.specs.Areas.{areaOf, areaKeyOn, areaBody}
 use Rattle.plans.specs.Plan.{storeRun, committed}
-use Rattle.masters.specs.Find.{lowestFree}
-use Rattle.points.specs.Points.{addStores, delStores, spotOn}
+use Rattle.points.specs.Points.{addPlace, addStores, delStores, spotOn}
 use Rattle.chains.specs.Members.{All, all-map}
 use Rattle.points.specs.declared.Spot.{Spot}
 use Rattle.points.specs.declared.Spot.the-variants.{Last}
@@ -107,7 +106,7 @@ module _ (c : Call) (rows : AllRows) (g : Ready (c .schema) (c .base) rows) wher
 
   module _ (spot : Spot) (ok : AddTests t b n j (c .area) spot) where
     abbrev r : ℕ
-    r = lowestFree b e
+    r = addPlace b t e (c .area) spot j
 
     abbrev a : List ℕ
     a = committed b (addStores b t e (c .area) spot j r)

@@ -15,10 +15,11 @@ use Rattle.schema.specs.Place.{blockOf, placeOf}
 use Rattle.schema.specs.Rules.{blockRule, headRule, nameRule, masterRule, variableRule, recordsRule, pathRule, slotRule, setRule, entryRule, restRule, namesRule, clash, lettersRule, formRule}
 use Rattle.records.specs.Areas.{areaKeyPlace, keysOn, areaOf, newMaster, newPaths, newVariable}
 use Rattle.plans.specs.Plan.{blocksSealed, storeAll, sealAll, committed, sealBelow, formatted}
-use Rattle.masters.specs.Find.{seek, find, tailFrom, lowestFree}
+use Rattle.scan.specs.Scan.{lowestFree}
+use Rattle.masters.specs.Find.{seek, find, tailFrom}
 use Rattle.masters.specs.Root.{addMasterFull, addMasterDamaged, addMasterStores, delMasterDamaged, delMasterStores}
 use Rattle.points.specs.Chains.{readDamaged, hasPoints}
-use Rattle.points.specs.Points.{neighboursAt, addDamaged, addStores}
+use Rattle.points.specs.Points.{neighboursAt, newPlace, addDamaged, addStores}
 use Rattle.calls.specs.Ladder.{refusal, wrongKind, blankAreaKey, otherAreaKey, otherStoredKey, ladder}
 use Rattle.calls.specs.Outcome.{done, outcomeIn, outcome}
 use Rattle.calls.specs.Reply.{given, referenceAfter, areaAfter, storesOf, baseAfter}
@@ -60,5 +61,5 @@ listingPrinted =
     ∷ []
 
 pub listing-prints : session (smallSchema 6) (begun (formatted 2)) (lines listing) ≡ lines listingPrinted
-unfolding xor countBelow otherStoredKey allBelow sumBelow lowestFrom concatBelow halfAt wordAt splice setWord every sameBytes sumOnto operationOf checkOf isSealed seal pathFrom entryFrom schemaOf linksBefore keyPlace linkPlace bodyPlace firstBlock sizeRule keepsRules blockOf placeOf blockRule headRule nameRule masterRule variableRule recordsRule pathRule slotRule setRule entryRule restRule namesRule clash lettersRule formRule areaKeyPlace keysOn areaOf newMaster newPaths newVariable blocksSealed storeAll sealAll committed sealBelow formatted seek find tailFrom lowestFree addMasterFull addMasterDamaged addMasterStores delMasterDamaged delMasterStores hasPoints neighboursAt addDamaged addStores refusal wrongKind blankAreaKey otherAreaKey readDamaged ladder done outcomeIn outcome given referenceAfter areaAfter storesOf baseAfter setNamed pathNamed sceneUnder twoSets smallSchema endOf isSpelt decimalOnto digitsOnto fieldsMade isRead responded session
+unfolding xor countBelow otherStoredKey allBelow sumBelow lowestFrom concatBelow halfAt wordAt splice setWord every sameBytes sumOnto operationOf checkOf isSealed seal pathFrom entryFrom schemaOf linksBefore keyPlace linkPlace bodyPlace firstBlock sizeRule keepsRules blockOf placeOf blockRule headRule nameRule masterRule variableRule recordsRule pathRule slotRule setRule entryRule restRule namesRule clash lettersRule formRule areaKeyPlace keysOn areaOf newMaster newPaths newVariable blocksSealed storeAll sealAll committed sealBelow formatted seek find tailFrom lowestFree addMasterFull addMasterDamaged addMasterStores delMasterDamaged delMasterStores hasPoints neighboursAt newPlace addDamaged addStores refusal wrongKind blankAreaKey otherAreaKey readDamaged ladder done outcomeIn outcome given referenceAfter areaAfter storesOf baseAfter setNamed pathNamed sceneUnder twoSets smallSchema endOf isSpelt decimalOnto digitsOnto fieldsMade isRead responded session
 listing-prints = refl

@@ -15,7 +15,8 @@ use Rattle.terms.specs.Status.{statusNumber, firstOf}
 use Rattle.records.specs.Areas.{areaKeyOn}
 use Rattle.masters.specs.declared.Found.{Found}
 use Rattle.masters.specs.declared.Found.the-variants.{At, Missing, Damaged}
-use Rattle.masters.specs.Find.{isMissing, isDamaged, isFull}
+use Rattle.scan.specs.Scan.{isFull}
+use Rattle.masters.specs.Find.{isMissing, isDamaged}
 use Rattle.points.specs.Points.{addDamaged, ownKey, delDamaged}
 use Rattle.point_plans.specs.Rest.{masterStatus, otherMaster, otherMasters, addStatus, delStatus}
 use Rattle.calls.specs.Call.{Call, oneOf, adds}

@@ -22,15 +22,14 @@ use Rattle.plans.specs.Stores.{planStores}
 use Rattle.plans.specs.BodyLaws.{body-stores}
 use Rattle.plans.specs.Made.{bodyPlanned}
 use Rattle.masters.specs.declared.Found.the-variants.{At}
-use Rattle.masters.specs.Find.{lowestFree}
 use Rattle.points.specs.declared.Spot.{Spot}
 use Rattle.points.specs.declared.Spot.the-variants.{Last, After, Before}
-use Rattle.points.specs.Points.{findOn, addStores, delStores}
+use Rattle.points.specs.Points.{findOn, addPlace, addStores, delStores}
 use Rattle.point_plans.specs.Rest.{addStatus, delStatus}
 use Rattle.calls.specs.SceneLaws.{schema-here, operation-here}
 use Rattle.calls.specs.Call.{Call, oneOf}
 use Rattle.calls.specs.Scene.{Scene, sceneUnder}
-use Rattle.calls.specs.Reply.{spotOf, orLink, given, referenceAfter, areaAfter, storesOf}
+use Rattle.calls.specs.Reply.{spotOf, newRecord, orLink, given, referenceAfter, areaAfter, storesOf}
 use Rattle.calls.specs.Ladder.{restRungs, refusal, otherStoredKey}
 use Rattle.calls.specs.Answer.{answered}
 use Rattle.terms.specs.Status.{firstOf}
@@ -111,13 +110,13 @@ module _ (y : Scene) (c : Call) where
   add-rest (After r) o = rest-addva y c o
 
   add-stores : (spot : Spot) → y .operation ≡ addAt spot
-      → storesOf y c ≡ addStores (c .base) (y .schema) (y .entry) (c .area) (spotOf (addAt spot) (c .reference)) (y .on) (lowestFree (c .base) (y .entry))
+      → storesOf y c ≡ addStores (c .base) (y .schema) (y .entry) (c .area) (spotOf (addAt spot) (c .reference)) (y .on) (newRecord (addAt spot) y c)
   unfolding storesOf
   add-stores Last o = rw o refl
   add-stores (Before r) o = rw o refl
   add-stores (After r) o = rw o refl
 
-  add-after : (spot : Spot) → y .operation ≡ addAt spot → referenceAfter y c ≡ lowestFree (c .base) (y .entry)
+  add-after : (spot : Spot) → y .operation ≡ addAt spot → referenceAfter y c ≡ newRecord (addAt spot) y c
   unfolding referenceAfter
   add-after Last o = rw o refl
   add-after (Before r) o = rw o refl
@@ -141,7 +140,7 @@ add-finds t e on p x r key area b looks m h g k = rw (k, ← h .masters) (g .mas
 
 module _ (t : Schema) (e : Entry) (on : ℕ) (p : Path) (x : Entry) (r : ℕ) (key area b : List ℕ) (spot : Spot) (looks : Bool) (m : RecordNo)
     (g : Seen b e p x r key looks m) (sp : Spotted spot e p r looks) (u : Status) (xs : List Store) (after : ℕ)
-    (w : u ≡ addStatus b t e area spot on) (f : u ≡ Done → (xs ≡ addStores b t e area spot on (lowestFree b e)) × (after ≡ lowestFree b e)) where
+    (w : u ≡ addStatus b t e area spot on) (f : u ≡ Done → (xs ≡ addStores b t e area spot on (addPlace b t e area spot on)) × (after ≡ addPlace b t e area spot on)) where
   module _ (c : Call) (i : ℕ) (h : Asks c (addAt spot) (c .name) r key area b) (at : OnPath t c i e on p x) where
     is-add : sceneUnder t c .operation ≡ addAt spot
     is-add = operation-here t c ∙ h .operation
@@ -155,7 +154,9 @@ module _ (t : Schema) (e : Entry) (on : ℕ) (p : Path) (x : Entry) (r : ℕ) (k
         ∙ (rw (at .entry, at .on, schema-here t c, h .base, h .reference, h .area, ← sp .by-reference) (sym (f d .0)))
 
     returned : u ≡ Done → referenceAfter (sceneUnder t c) c ≡ after
-    returned d = add-after (sceneUnder t c) c spot is-add ∙ (rw (at .entry, h .base) (sym (f d .1)))
+    returned d =
+        add-after (sceneUnder t c) c spot is-add
+        ∙ (rw (at .entry, at .on, schema-here t c, h .base, h .reference, h .area, ← sp .by-reference) (sym (f d .1)))
 
     added : answered (sceneUnder t c) c (refusal (sceneUnder t c) c (restRungs (sceneUnder t c))) ≡ settled u b xs after r area
     added =

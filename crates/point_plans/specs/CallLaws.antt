@@ -27,12 +27,12 @@ use Rattle.plans.specs.declared.Plan.{Plan}
 use Rattle.plans.specs.declared.Planned.{Planned}
 use Rattle.plans.specs.PlanOk.{PlanOk, AllFit, WordsOk}
 use Rattle.plans.specs.Stores.{wordsOf, wordStores, planStores}
-use Rattle.masters.specs.Find.{lowestFree, isFull}
-use Rattle.masters.specs.FindLaws.{lowestFree-in}
+use Rattle.scan.specs.Scan.{isFull}
 use Rattle.points.specs.declared.Spot.{Spot}
-use Rattle.points.specs.Points.{spotOn, neighboursAt, addLink, addDamaged, addStores, ownKey, ownLink, delDamaged, delStores}
+use Rattle.points.specs.PlaceLaws.{newPlace-in}
+use Rattle.points.specs.Points.{spotOn, neighboursAt, newPlace, addLink, addPlace, addDamaged, addStores, ownKey, ownLink, delDamaged, delStores}
 use Rattle.point_plans.specs.Rest.{otherMasters, addStatus, delStatus}
-use Rattle.point_plans.specs.Paths.{linkOn, linkAt, ownLinks, newLinks, both, bothOn, damaged}
+use Rattle.point_plans.specs.Paths.{linkOn, linkAt, ownLinks, newLinks, placeAt, both, bothOn, damaged}
 use Rattle.point_plans.specs.WithinLaws.{record-key}
 use Rattle.point_plans.specs.DamageLaws.{links-in}
 use Rattle.point_plans.specs.Plans.{Built}
@@ -135,18 +135,22 @@ module _ (b : List ℕ) (t : Schema) (e : Entry) (area : List ℕ) (spot : Spot)
         wiped = rw (made .wiped) (omega arith);
       }
 
+  -- the place that the code takes
+  place-is : on < e .count → placeAt b e owners spot on ≡ addPlace b t e area spot on
+  place-is l = ap (λ (z : Link). newPlace b e (z .prior)) (link-is on l)
+
   -- the whole answer
-  pub add-answer : (at : List ℕ) (a : Planned) → ((k : ℕ) → k < e .count → getD at k 0 ≡ areaKeyPlace e k) → otherMasters b t e on Mrnf (areaKeyOn e area) (e .count) ≡ Done
+  pub add-answer : (at : List ℕ) (a : Planned) → ((k : ℕ) → k < e .count → getD at k 0 ≡ areaKeyPlace e k) → on < e .count → otherMasters b t e on Mrnf (areaKeyOn e area) (e .count) ≡ Done
       → a .status ≡ cond (isFull b e) Full (cond (damaged b e area at owners (newLinks b e owners spot on)) Damg Done)
-      → (a .status ≡ Done → Built e owners (newLinks b e owners spot on) (bothOn e (lowestFree b e)) Variable (lowestFree b e) 0 (a .plan))
+      → (a .status ≡ Done → Built e owners (newLinks b e owners spot on) (bothOn e (placeAt b e owners spot on)) Variable (placeAt b e owners spot on) 0 (a .plan))
       → (a .status ≡ addStatus b t e area spot on)
-      × (a .status ≡ Done → (planStores b e area (a .plan) ≡ addStores b t e area spot on (lowestFree b e)) × PlanOk (length b) e (a .plan) × (a .plan .target .0 ≡ lowestFree b e) × (a .plan .head ≡ Variable))
-  add-answer at a places done is made = (
+      × (a .status ≡ Done → (planStores b e area (a .plan) ≡ addStores b t e area spot on (addPlace b t e area spot on)) × PlanOk (length b) e (a .plan) × (a .plan .target .0 ≡ addPlace b t e area spot on) × (a .plan .head ≡ Variable))
+  add-answer at a places named done is made = (
     is ∙ (rw (add-damage at places) (sym (add-passed b t e area spot on done))),
     λ z.
-        let w = made z in
+        let w = rw (place-is named) at (made z) in
         let d = rest-done (isFull b e) (damaged b e area at owners (newLinks b e owners spot on)) (sym is ∙ z) in
-        (add-stores (lowestFree b e) (a .plan) w, add-ok (lowestFree b e) (a .plan) w (lowestFree-in b e (d .0)) at (d .1), w .target, w .head),
+        (add-stores _ (a .plan) w, add-ok _ (a .plan) w (newPlace-in b e _ (d .0)) at (d .1), w .target, w .head),
   )
 
 -- ---- DELVD of the record r

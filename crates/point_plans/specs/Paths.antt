@@ -24,7 +24,7 @@ use Rattle.masters.specs.declared.Found.{Found}
 use Rattle.masters.specs.declared.Found.the-variants.{At, Missing, Damaged}
 use Rattle.points.specs.declared.Spot.{Spot}
 use Rattle.points.specs.Chains.{badNeighbour}
-use Rattle.points.specs.Points.{findOn, spotOn, neighboursAt}
+use Rattle.points.specs.Points.{findOn, spotOn, neighboursAt, newPlace}
 use Rattle.point_plans.specs.declared.Owner.{Owner}
 use Rattle.point_plans.specs.Rest.{masterStatus}
 
@@ -69,7 +69,11 @@ ownLinks b e r = upto (linkOn b e r) (e .count)
 abbrev pub newLinks : List ℕ → Entry → List Part → Spot → ℕ → List Link
 newLinks b e owners spot on = upto (linkAt b e owners spot on) (e .count)
 
--- the new record's number, for both sides of every path
+-- the new record's number
+abbrev pub placeAt : List ℕ → Entry → List Part → Spot → ℕ → ℕ
+placeAt b e owners spot on = newPlace b e (linkAt b e owners spot on on .prior)
+
+-- a number, for both sides of every path
 abbrev pub both : ℕ → Link
 both r = record { prior = r; next = r }
 

@@ -13,7 +13,7 @@ use Rattle.schema.specs.declared.Schema.{Schema}
 use Rattle.records.specs.Areas.{areaKeyOn}
 use Rattle.masters.specs.declared.Found.{Found}
 use Rattle.masters.specs.declared.Found.the-variants.{At, Missing, Damaged}
-use Rattle.masters.specs.Find.{isFull}
+use Rattle.scan.specs.Scan.{isFull}
 use Rattle.points.specs.declared.Spot.{Spot}
 use Rattle.points.specs.Points.{findOn, addDamaged, ownKey, delDamaged}
 

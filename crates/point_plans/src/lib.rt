@@ -1,11 +1,11 @@
 // The adds and DELVD: what a point's call reads on every path of its set, what it refuses, and the plan of what it stores.
-use masters::scan::lowest_free;
 use plans::Head;
 use plans::Plan;
 use plans::Planned;
 use plans::refused;
 use points::Spot;
 use records::Link;
+use scan::lowest_free;
 use schema::Entry;
 use schema::Part;
 use schema::Schema;
@@ -27,10 +27,10 @@ ghost use Rattle.plans.specs.PlanOk.{PlanOk};
 ghost use Rattle.plans.specs.Stores.{planStores};
 ghost use Rattle.plans.specs.Made.{NoneRefused};
 ghost use Rattle.masters.specs.declared.Found.the-variants.{At};
-ghost use Rattle.masters.specs.Find.{lowestFree, isFull};
-ghost use Rattle.points.specs.Points.{findOn, addStores, delStores};
+ghost use Rattle.scan.specs.Scan.{isFull};
+ghost use Rattle.points.specs.Points.{findOn, newPlace, addPlace, addStores, delStores};
 ghost use Rattle.point_plans.specs.Rest.{addStatus, delStatus};
-ghost use Rattle.point_plans.specs.Paths.{ownLinks, newLinks, bothOn, damaged};
+ghost use Rattle.point_plans.specs.Paths.{ownLinks, newLinks, placeAt, bothOn, damaged};
 ghost use Rattle.point_plans.specs.Within.{OwnersIn, KeysIn, LinksIn, SpotIn};
 ghost use Rattle.records.specs.InBase.{VariableIn, PointsIn};
 ghost use Rattle.point_plans.specs.Plans.{Built};
@@ -50,6 +50,14 @@ pub struct Owner {
 pub struct Owners {
     pub status: Status,
     pub parts: [Part; 4],
+}
+
+// The number of a new record; R + 1 where the set is full. Its prior neighbour on the named path is not tested yet, and has no say in it.
+fn new_place(base: &[u8], e: Entry, prior: u32) -> u32
+    requires { ⌜ PointsIn e (length (now base)) ⌝ }
+    ensures { λ r. ⌜ r ≡ newPlace (now (base .entry)) e prior ⌝ }
+{
+    lowest_free(base, e)
 }
 
 // The plan of an add, for the record that it takes.
@@ -89,19 +97,20 @@ fn add_known(
     requires { ⌜ KeysIn e at (length (now area)) ⌝ }
     requires { ⌜ OwnersIn e owners (length (now base)) ⌝ }
     requires { ⌜ SpotIn spot e ⌝ }
+    requires { ⌜ on < e .count ⌝ }
     ensures { λ r. ⌜ r .status ≡ cond (isFull (now (base .entry)) e) Full (cond (damaged (now (base .entry)) e (now (area .entry)) at owners (newLinks (now (base .entry)) e owners spot on)) Damg Done) ⌝ }
-    ensures { λ r. ⌜ (r .status ≡ Done → Built e owners (newLinks (now (base .entry)) e owners spot on) (bothOn e (lowestFree (now (base .entry)) e)) Variable (lowestFree (now (base .entry)) e) 0 (r .plan)) ⌝ }
+    ensures { λ r. ⌜ (r .status ≡ Done → Built e owners (newLinks (now (base .entry)) e owners spot on) (bothOn e (placeAt (now (base .entry)) e owners spot on)) Variable (placeAt (now (base .entry)) e owners spot on) 0 (r .plan)) ⌝ }
     ensures { λ r. ⌜ NoneRefused r ⌝ }
 {
-    let free = lowest_free(base, e);
-    if e.records < free {
+    let links = links::new_links(base, e, owners, spot, on);
+    let place = new_place(base, e, links[on].prior);
+    if e.records < place {
         return refused(Status::Full);
     }
-    let links = links::new_links(base, e, owners, spot, on);
     if damage::any_damaged(base, e, area, at, owners, links) {
         return refused(Status::Damg);
     }
-    let plan = linked_plan(e, owners, links, free);
+    let plan = linked_plan(e, owners, links, place);
     Planned {
         status: Status::Done,
         plan,
@@ -152,7 +161,7 @@ pub fn add(
     requires { ⌜ on < e .count ⌝ }
     requires { ⌜ findOn (now base) t e on (areaKeyOn e (now area) on) ≡ At m ⌝ }
     ensures { λ r. ⌜ r .status ≡ addStatus (now (base .entry)) t e (now (area .entry)) spot on ⌝ }
-    ensures { λ r. ⌜ (r .status ≡ Done → (planStores (now (base .entry)) e (now (area .entry)) (r .plan) ≡ addStores (now (base .entry)) t e (now (area .entry)) spot on (lowestFree (now (base .entry)) e)) × PlanOk (length (now (base .entry))) e (r .plan) × (r .plan .target .0 ≡ lowestFree (now (base .entry)) e) × (r .plan .head ≡ Variable)) ⌝ }
+    ensures { λ r. ⌜ (r .status ≡ Done → (planStores (now (base .entry)) e (now (area .entry)) (r .plan) ≡ addStores (now (base .entry)) t e (now (area .entry)) spot on (addPlace (now (base .entry)) t e (now (area .entry)) spot on)) × PlanOk (length (now (base .entry))) e (r .plan) × (r .plan .target .0 ≡ addPlace (now (base .entry)) t e (now (area .entry)) spot on) × (r .plan .head ≡ Variable)) ⌝ }
     ensures { λ r. ⌜ NoneRefused r ⌝ }
 {
     let at = search::area_places(e);

@@ -18,7 +18,7 @@ use Rattle.schema.specs.declared.Entry.{Entry}
 use Rattle.schema.specs.declared.Schema.{Schema}
 use Rattle.schema.specs.Decode.{entryOf, setCount}
 use Rattle.records.specs.Areas.{areaLength}
-use Rattle.masters.specs.Find.{nextLive}
+use Rattle.scan.specs.Scan.{nextLive}
 use Rattle.calls.specs.SceneLaws.{entry-here}
 use Rattle.calls.specs.Call.{Call, callOf}
 use Rattle.calls.specs.Scene.{Scene, sceneUnder}

@@ -1,7 +1,7 @@
 // RDNXT: the live records of a set of either kind, one after the other by their numbers.
 use ends::Answer;
 use ends::give;
-use masters::scan::next_live;
+use scan::next_live;
 use schema::Entry;
 use schema::Schema;
 use schema::layout::entry_of;

@@ -20,10 +20,11 @@ use Rattle.schema.specs.Decode.{pathFrom, entryFrom, schemaOf}
 use Rattle.schema.specs.Place.{blockOf, placeOf}
 use Rattle.records.specs.Areas.{areaKeyPlace, keysOn, areaOf, newMaster, newPaths, newVariable}
 use Rattle.plans.specs.Plan.{blocksSealed, storeAll, sealAll, committed, sealBelow, formatted}
-use Rattle.masters.specs.Find.{seek, find, lowestFree}
+use Rattle.scan.specs.Scan.{lowestFree}
+use Rattle.masters.specs.Find.{seek, find}
 use Rattle.masters.specs.Root.{addMasterFull, addMasterDamaged, addMasterStores}
 use Rattle.points.specs.Chains.{readDamaged}
-use Rattle.points.specs.Points.{neighboursAt, addDamaged, addStores, delDamaged, delStores}
+use Rattle.points.specs.Points.{neighboursAt, newPlace, addDamaged, addStores, delDamaged, delStores}
 use Rattle.sound.specs.Sound.{isIn, within, checksTrue, recordClean, leftoverClean, setClean, follow, isChain, lastOf, keysDistinct, mastersOfHome, homeList, homeSound, masterSetSound, pathList, pathSound, hasMaster, variablePathSound, variableSetSound, setSound, sound}
 use Rattle.calls.specs.Scene.{sceneUnder}
 use Rattle.schema.specs.Naming.{setNamed, pathNamed}
@@ -77,7 +78,7 @@ one-not-end : 1 ≢ endRef
 one-not-end e = omega (arith, e)
 
 pub computed : Computed
-unfolding xor halfAt wordAt splice setWord every sameBytes sumOnto allBelow sumBelow countBelow lowestFrom concatBelow operationOf checkOf isSealed seal blockRule headRule nameRule masterRule variableRule recordsRule pathRule slotRule setRule entryRule restRule namesRule clash lettersRule formRule linksBefore keyPlace linkPlace bodyPlace firstBlock sizeRule keepsRules pathFrom entryFrom schemaOf blockOf placeOf areaKeyPlace keysOn areaOf newMaster newPaths newVariable blocksSealed storeAll sealAll committed sealBelow formatted seek find lowestFree addMasterFull addMasterDamaged addMasterStores readDamaged neighboursAt addDamaged addStores delDamaged delStores isIn within checksTrue recordClean leftoverClean setClean follow isChain lastOf keysDistinct mastersOfHome homeList homeSound masterSetSound pathList pathSound hasMaster variablePathSound variableSetSound setSound sound refusal wrongKind blankAreaKey otherAreaKey ladder done outcomeIn outcome given referenceAfter areaAfter storesOf baseAfter setNamed pathNamed sceneUnder before step afterCalls plain ofKey twoSets twin refusesAll alwaysDone storesNothing linksFirst everyOther forgetsNext formatLeaves insertsAfter readsForward sweepsNothing answers
+unfolding xor halfAt wordAt splice setWord every sameBytes sumOnto allBelow sumBelow countBelow lowestFrom concatBelow operationOf checkOf isSealed seal blockRule headRule nameRule masterRule variableRule recordsRule pathRule slotRule setRule entryRule restRule namesRule clash lettersRule formRule linksBefore keyPlace linkPlace bodyPlace firstBlock sizeRule keepsRules pathFrom entryFrom schemaOf blockOf placeOf areaKeyPlace keysOn areaOf newMaster newPaths newVariable blocksSealed storeAll sealAll committed sealBelow formatted seek find lowestFree addMasterFull addMasterDamaged addMasterStores readDamaged neighboursAt newPlace addDamaged addStores delDamaged delStores isIn within checksTrue recordClean leftoverClean setClean follow isChain lastOf keysDistinct mastersOfHome homeList homeSound masterSetSound pathList pathSound hasMaster variablePathSound variableSetSound setSound sound refusal wrongKind blankAreaKey otherAreaKey ladder done outcomeIn outcome given referenceAfter areaAfter storesOf baseAfter setNamed pathNamed sceneUnder before step afterCalls plain ofKey twoSets twin refusesAll alwaysDone storesNothing linksFirst everyOther forgetsNext formatLeaves insertsAfter readsForward sweepsNothing answers
 computed =
     record {
       kept = refl;

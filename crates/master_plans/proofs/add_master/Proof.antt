@@ -6,7 +6,7 @@ use native.Mathlib.Omega.{arith}
 use borrow.Author.Tests.{not-true, not-false}
 use denote.Ref.{now}
 use Rattle.records.specs.Records.{isLive}
-use Rattle.masters.specs.Find.{lowestFree}
+use Rattle.scan.specs.Scan.{lowestFree}
 use Rattle.master_plans.specs.TestLaws.{stands-as}
 use Rattle.master_plans.specs.AddLaws.{home-stands, add-home-status, add-home-stores, add-full, add-beside-status, add-beside-stores, free-in, free-apart}
 use Rattle.plans.specs.MadeLaws.{refused-status, refused-none, none-refused}

@@ -90,7 +90,7 @@ add-known-requires c κs =
       s .pre .0 .points,
       (
         area-keys-in (d .area-places .result) (now (a .area)) (s .pre .0 .points) (s .pre .1 .0) (places d),
-        (owners-in (now (a .base)) (a .t) (a .e) (areaKeyOn (a .e) (now (a .area))) _ (known n (c .before .if1 .left)), s .pre .1 .1 .0),
+        (owners-in (now (a .base)) (a .t) (a .e) (areaKeyOn (a .e) (now (a .area))) _ (known n (c .before .if1 .left)), (s .pre .1 .1 .0, s .pre .1 .1 .1 .0)),
       ),
     )
 
@@ -99,7 +99,7 @@ returns-2 c =
     let n = c .before .before .before in
     let d = n .before .before in
     let a = start d .args in
-    let w = add-answer (now (a .base)) (a .t) (a .e) (now (a .area)) (a .spot) (a .on) _ (known n (c .before .before .if1 .left)) _ (c .add-known .result) (places d)
+    let w = add-answer (now (a .base)) (a .t) (a .e) (now (a .area)) (a .spot) (a .on) _ (known n (c .before .before .if1 .left)) _ (c .add-known .result) (places d) (start d .pre .1 .1 .1 .0)
     (sym (others (n .before)) ∙ done n (c .before .before .if1 .left)) (c .add-known .ensures .0) (c .add-known .ensures .1 .0) in
     (w .0, (w .1, c .add-known .ensures .1 .1))
 

@@ -10,8 +10,8 @@ ghost use Prim.Native.Nat.{_+_, _*_, _-_, _≤_, _<_};
 ghost use lib.ListN.{length};
 ghost use Rattle.octets.specs.Below.{lowestFrom};
 ghost use Rattle.schema.specs.Place.{LiesIn};
-ghost use Rattle.masters.specs.Find.{lowestFree, nextLive};
-ghost use Rattle.masters.specs.Scans.{wanted, wantedIn};
+ghost use Rattle.scan.specs.Scan.{lowestFree, nextLive};
+ghost use Rattle.scan.specs.Wanted.{wanted, wantedIn};
 
 // Of n records that lie one behind the other, `size` bytes each: how many come before the first live one, or free one; n where there is none.
 fn in_block(records: &[u8], size: usize, n: u32, live: bool) -> u32

@@ -1,9 +1,9 @@
--- `masters::scan::lowest_free` meets its contract: the scan for a free record from the first on. Assumes nothing.
+-- `scan::lowest_free` meets its contract: the scan for a free record from the first on. Assumes nothing.
 use native.Mathlib.Nat.{sub-zero}
 use borrow.Author.Needs.{needs}
-use Rattle.masters.specs.Find.{lowestFree}
-use Rattle.masters.proofs.scan.lowest_free.Statement.{statement}
-use Rattle.masters.proofs.scan.lowest_free.Tie as tie
+use Rattle.scan.specs.Scan.{lowestFree}
+use Rattle.scan.proofs.lowest_free.Statement.{statement}
+use Rattle.scan.proofs.lowest_free.Tie as tie
 
 scan-requires : tie.Need-scan-requires
 scan-requires c κs = search needs

@@ -1,18 +1,21 @@
--- The scans: a test for both answers, `lowestFrom` in pieces, and what is seen of the records of one block.
+-- The scans: a test for both answers, `lowestFrom` in pieces, and what is seen of the records of one block. The lowest free record is free.
 use Prim.Native.Nat.{ℕ, zero, suc, _+_, _*_, _-_, _≤_, _<_}
 use mathlib.Core.Path.{_≡_, refl, sym, ap, _∙_}
-use mathlib.Core.Bool.{Bool, true, false, cond, Bool·beq}
+use mathlib.Core.Bool.{Bool, true, false, cond, not, Bool·beq}
 use mathlib.Core.List.{List}
 use native.Mathlib.Omega.{arith}
 use native.Mathlib.Nat.{mul-le-mul-right}
+use borrow.Author.Tests.{ltb-false, not-true}
 use Rattle.octets.specs.SpliceLaws.{getD-run}
 use Rattle.octets.specs.Below.{lowestFrom}
-use Rattle.octets.specs.BelowLaws.{lowestFrom-turn, lowestFrom-hit, lowestFrom-ge}
+use Rattle.octets.specs.BelowLaws.{lowestFrom-turn, lowestFrom-hit, lowestFrom-ge, lowestFrom-at}
 use Rattle.schema.specs.declared.Entry.{Entry}
 use Rattle.schema.specs.declared.Stretch.{Stretch}
-use Rattle.schema.specs.Place.{LiesIn, stretchFrom, stretchOf}
+use Rattle.schema.specs.Place.{InSet, LiesIn, stretchFrom, stretchOf}
 use Rattle.schema.specs.PlaceLaws.{few-held, stretch-along}
-use Rattle.masters.specs.Scans.{isWanted, wanted, wantedIn}
+use Rattle.records.specs.Records.{isLive}
+use Rattle.scan.specs.Scan.{lowestFree, isFull}
+use Rattle.scan.specs.Wanted.{isWanted, wanted, wantedIn}
 
 -- the code's test
 pub wanted-is : (live l : Bool) → Bool·beq l live ≡ isWanted live l
@@ -89,3 +92,17 @@ module _ {e : Entry} {len : ℕ} (q : ℕ) (s : Stretch) (ok : LiesIn e len) (l 
         let m : e .records - q ≡ s .count + (e .records - (q + s .count)) = omega (arith, few-held q s ok l h) in
         let p : q + s .count + 1 ≡ q + 1 + s .count = omega arith in
         rw (m, p) (lowestFrom-goes (wanted live b e) (s .count) (e .records - (q + s .count)) (q + 1) (omega (arith, answered)))
+
+-- ---- the lowest free record
+
+-- of a set that is not full it is a free record of the set
+module _ (b : List ℕ) (e : Entry) where
+  pub lowestFree-in : isFull b e ≡ false → InSet e (lowestFree b e)
+  unfolding lowestFree
+  lowestFree-in h = (lowestFrom-ge (λ r. not (isLive b e r)) (e .records) 1, ltb-false (e .records) _ h)
+
+  pub lowestFree-free : isFull b e ≡ false → isLive b e (lowestFree b e) ≡ false
+  unfolding lowestFree
+  lowestFree-free h =
+      let l = ltb-false (e .records) _ h in
+      not-true _ (lowestFrom-at (λ r. not (isLive b e r)) (e .records) 1 (omega arith))

@@ -1,4 +1,4 @@
--- `masters::scan::scan` meets its contract. The invariant: while records are left, `s` are the next of them that lie in one block, and the
+-- `scan::scan` meets its contract. The invariant: while records are left, `s` are the next of them that lie in one block, and the
 -- records not passed yet decide. Assumes nothing.
 use Prim.Native.Nat.{ℕ, _+_, _*_, _-_, _≤_, _<_}
 use mathlib.Core.Path.{_≡_, refl, sym, ap, _∙_}
@@ -10,11 +10,11 @@ use Rattle.octets.specs.Below.{lowestFrom}
 use Rattle.octets.specs.BelowLaws.{lowestFrom-end}
 use Rattle.schema.specs.Place.{stretchFrom}
 use Rattle.schema.specs.PlaceLaws.{some-held, few-held, stretch-inside, stretch-next}
-use Rattle.masters.specs.Scans.{wanted}
-use Rattle.masters.specs.ScanLaws.{scan-hit, scan-miss}
+use Rattle.scan.specs.Wanted.{wanted}
+use Rattle.scan.specs.ScanLaws.{scan-hit, scan-miss}
 use borrow.Author.Needs.{needs}
-use Rattle.masters.proofs.scan.scan.Statement.{statement}
-use Rattle.masters.proofs.scan.scan.Tie as tie
+use Rattle.scan.proofs.scan.Statement.{statement}
+use Rattle.scan.proofs.scan.Tie as tie
 
 abbrev Inv-loop : tie.InvT-loop
 Inv-loop base e from live size passed₀ s₀ passed s =

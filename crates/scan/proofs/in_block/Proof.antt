@@ -1,4 +1,4 @@
--- `masters::scan::in_block` meets its contract. The invariant: `p` is the place of record i, and what is left decides. Assumes nothing.
+-- `scan::in_block` meets its contract. The invariant: `p` is the place of record i, and what is left decides. Assumes nothing.
 use Prim.Native.Nat.{_+_, _*_, _-_, _≤_}
 use mathlib.Core.Path.{_≡_, sym, _∙_}
 use mathlib.Core.Bool.{Bool, true, false, Bool·beq}
@@ -10,11 +10,11 @@ use denote.Ref.{now}
 use Rattle.octets.specs.Octets.{byteAt}
 use Rattle.octets.specs.Below.{lowestFrom}
 use Rattle.octets.specs.BelowLaws.{lowestFrom-turn, lowestFrom-hit, lowestFrom-end}
-use Rattle.masters.specs.Scans.{wantedIn}
-use Rattle.masters.specs.ScanLaws.{wanted-is}
+use Rattle.scan.specs.Wanted.{wantedIn}
+use Rattle.scan.specs.ScanLaws.{wanted-is}
 use borrow.Author.Needs.{needs}
-use Rattle.masters.proofs.scan.in_block.Statement.{statement}
-use Rattle.masters.proofs.scan.in_block.Tie as tie
+use Rattle.scan.proofs.in_block.Statement.{statement}
+use Rattle.scan.proofs.in_block.Tie as tie
 
 abbrev Inv-loop : tie.InvT-loop
 Inv-loop records size n live i₀ p₀ i p = (i ≤ n) × (p ≡ i * size) × (lowestFrom (wantedIn live records size) (n - i) i ≡ lowestFrom (wantedIn live records size) n 0)

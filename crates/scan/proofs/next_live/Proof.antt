@@ -1,4 +1,4 @@
--- `masters::scan::next_live` meets its contract: above the last record there is none, and below it the scan decides. Assumes nothing.
+-- `scan::next_live` meets its contract: above the last record there is none, and below it the scan decides. Assumes nothing.
 use Prim.Native.Nat.{_+_, _-_}
 use mathlib.Core.Path.{sym}
 use native.Mathlib.Omega.{arith}
@@ -6,8 +6,8 @@ use denote.Ref.{now}
 use borrow.Author.Needs.{needs}
 use Rattle.octets.specs.BelowLaws.{lowestFrom-end}
 use Rattle.records.specs.Records.{isLive}
-use Rattle.masters.proofs.scan.next_live.Statement.{statement}
-use Rattle.masters.proofs.scan.next_live.Tie as tie
+use Rattle.scan.proofs.next_live.Statement.{statement}
+use Rattle.scan.proofs.next_live.Tie as tie
 
 add-result : tie.Need-add-result
 add-result c = search needs
