@@ -39,29 +39,10 @@ seals-end b x n i e h p q = let j : i ≡ n = omega arith in h ∙ rw (j, e) ref
 
 -- ---- the check of a block of zeros is the block's number
 
-lower : (a : ℕ) → a < 4294967296 → a % 4294967296 ≡ a
-lower a h = mod-eq-of-lt h
-
-sum-zeros : (k n acc : ℕ) → n ≡ k * 4 → acc < 4294967296 → sumOnto acc (zeros n) ≡ acc
-unfolding sumOnto
-sum-zeros zero zero acc e h = refl
-sum-zeros zero (suc n) acc e h = absurd (omega arith)
-sum-zeros (suc k) zero acc e h = refl
-sum-zeros (suc k) (suc zero) acc e h = refl
-sum-zeros (suc k) (suc (suc zero)) acc e h = refl
-sum-zeros (suc k) (suc (suc (suc zero))) acc e h = refl
-sum-zeros (suc k) (suc (suc (suc (suc n)))) acc e h =
-    let z : (acc + word4 0 0 0 0) % 4294967296 ≡ acc = lower (acc + word4 0 0 0 0) (omega arith) ∙ omega arith in
-    rw z (sum-zeros k n acc (omega arith) h)
-
-zero-check : (n : ℕ) → n < 4294967296 → checkOf (zeros 512) n ≡ n
-unfolding checkOf
-zero-check n h = ap (sumOnto n) (run-zeros 512 0 508 (omega arith)) ∙ sum-zeros 127 508 n refl h
-
--- so it is stored as it is
-pub zero-seal : (b : List ℕ) (n : ℕ) → run b (blockAt n) 512 ≡ zeros 512 → n < 4294967296 → setWord b (checkAt n) n ≡ seal b n
+-- it is stored as it is
+pub zero-seal : (k : Check) (b : List ℕ) (n : ℕ) → run b (blockAt n) 512 ≡ zeros 512 → n < 4294967296 → setWord b (checkAt n) n ≡ seal k b n
 unfolding seal
-zero-seal b n z h = rw (z, zero-check n h) refl
+zero-seal k b n z h = rw (z, checkOf-zeros k n h) refl
 
 -- a block whose check is not set yet is all zero
 run-sealBelow : (i : ℕ) (b : List ℕ) (a m : ℕ) → i * 512 ≤ a → run (sealBelow i b) a m ≡ run b a m
