@@ -54,7 +54,7 @@ fn sum(block: &[u8], n: BlockNo) -> u32
 }
 
 // The check of the block n, of which `block` has the bytes.
-pub fn check_of(k: Check, block: &[u8], n: BlockNo) -> u32
+pub fn check_of(block: &[u8], n: BlockNo, k: Check) -> u32
     requires { ⌜ length (now block) ≡ 512 ⌝ }
     ensures { λ r. ⌜ r ≡ checkOf k (now (block .entry)) (n .0) ⌝ }
 {
@@ -64,12 +64,12 @@ pub fn check_of(k: Check, block: &[u8], n: BlockNo) -> u32
 }
 
 // Is block n's check true?
-pub fn sealed(k: Check, base: &[u8], n: BlockNo) -> bool
+pub fn sealed(base: &[u8], n: BlockNo, k: Check) -> bool
     requires { ⌜ HasBlock (now base) (n .0) ⌝ }
     ensures { λ r. ⌜ r ≡ isSealed k (now (base .entry)) (n .0) ⌝ }
 {
     let part = block(base, n);
-    octets::word(part, 508) == check_of(k, part, n)
+    octets::word(part, 508) == check_of(part, n, k)
 }
 
 // Stores v as block n's check.
@@ -83,10 +83,10 @@ pub fn put_check(base: &mut [u8], n: BlockNo, v: u32)
 }
 
 // Sets block n's check anew.
-pub fn seal(k: Check, base: &mut [u8], n: BlockNo)
+pub fn seal(base: &mut [u8], n: BlockNo, k: Check)
     requires { ⌜ HasBlock (now base) (n .0) ⌝ }
     ensures { λ _. ⌜ now (base .exit) ≡ seal k (now (base .entry)) (n .0) ⌝ }
 {
-    let v = check_of(k, block(base, n), n);
+    let v = check_of(block(base, n), n, k);
     put_check(base, n, v);
 }

@@ -52,7 +52,7 @@ fn sealed(s: &[u8]) -> bool
     requires { ⌜ length (now s) ≡ 512 ⌝ }
     ensures { λ r. ⌜ r ≡ isSealed (checkBy (editionOf (now (s .entry)))) (now (s .entry)) 0 ⌝ }
 {
-    blocks::sealed(Check::of(s[0]), s, BlockNo(0))
+    blocks::sealed(s, BlockNo(0), Check::of(s[0]))
 }
 
 // "Byte 0 is 1; byte 1 is M, master sets, 1..4; byte 2 is V, variable sets, 0..4; bytes 3..15 zero."
