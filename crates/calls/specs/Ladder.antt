@@ -12,6 +12,7 @@ use Rattle.terms.specs.declared.Status.{Status}
 use Rattle.terms.specs.declared.Status.the-variants.{Done, Schm, Size, Func, Fntf, Kind, Path, Area, Klen, Bctl, Keys, Ivrp, Mrnf, Dupm, Imdl, Full, Damg}
 use Rattle.terms.specs.declared.Operation.{Operation}
 use Rattle.terms.specs.declared.Operation.the-variants.{Formt, Sinon, AddM, DelM, Readm, Writm, Rqloc, Rdnxt, Readv, Readr, Readd, Writv, Addvc, Addvb, Addva, Delvd, Unknown}
+use Rattle.blocks.specs.Blocks.{checkBy}
 use Rattle.schema.specs.declared.Entry.{Entry}
 use Rattle.schema.specs.Decode.{pathOf, setCount}
 use Rattle.schema.specs.Layout.{keepsRules}
@@ -145,7 +146,7 @@ finalTests x c =
     ∷ on x (DelM ∷ []) Damg (delMasterDamaged (c .base) (x .entry) (homeOfKey x c) (masterIn x))
     ∷ on x adds Damg (addDamaged (c .base) (x .schema) (x .entry) (c .area) (spotOf (x .operation) (c .reference)) (x .on))
     ∷ on x (Delvd ∷ []) Damg (delDamaged (c .base) (x .schema) (x .entry) (c .reference))
-    ∷ but x [] Damg (not (blocksSealed (c .base) (storesOf x c)))
+    ∷ but x [] Damg (not (blocksSealed (checkBy (x .schema .edition)) (c .base) (storesOf x c)))
     ∷ []
 
 -- ---- the whole ladder

@@ -13,6 +13,7 @@ use Rattle.terms.specs.Status.{statusNumber}
 use Rattle.calls.specs.Call.{Call, oneOf}
 use Rattle.calls.specs.Scene.{Scene, sceneOf}
 use Rattle.calls.specs.Ladder.{Test, refusal, generalTests, parameterTests, foundTests, otherMasterTests, finalTests, ladder}
+use Rattle.blocks.specs.Blocks.{checkBy}
 use Rattle.plans.specs.Plan.{formatted, committed}
 use Rattle.plans.specs.PlanLaws.{length-committed, length-formatted}
 use Rattle.terms.specs.Laws.{status-number-one, one-passes}
@@ -77,9 +78,9 @@ unfolding ladder
 sized x c h = eqb-true (length (c .base)) (x .schema .blocks * 512) (not-false _ (h .1 .0))
 
 after-length : (f : Bool) (x : Scene) (c : Call) → length (c .base) ≡ x .schema .blocks * 512
-    → length (cond f (formatted (x .schema .blocks)) (committed (c .base) (storesOf x c))) ≡ length (c .base)
-after-length true x c h = length-formatted (x .schema .blocks) ∙ sym h
-after-length false x c h = length-committed (c .base) (storesOf x c)
+    → length (cond f (formatted (checkBy (x .schema .edition)) (x .schema .blocks)) (committed (checkBy (x .schema .edition)) (c .base) (storesOf x c))) ≡ length (c .base)
+after-length true x c h = length-formatted (checkBy (x .schema .edition)) (x .schema .blocks) ∙ sym h
+after-length false x c h = length-committed (checkBy (x .schema .edition)) (c .base) (storesOf x c)
 
 done-length : (x : Scene) (c : Call) → refusal (ladder x c) ≡ Done → length (done x c .base) ≡ length (c .base)
 unfolding done baseAfter
