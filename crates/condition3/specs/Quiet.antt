@@ -19,6 +19,7 @@ use Rattle.schema.specs.Decode.{entryOf, pathOf, schemaOf}
 use Rattle.schema.specs.Guarantee.{IsPathOf}
 use Rattle.records.specs.Records.{keyOn}
 use Rattle.records.specs.Areas.{areaKeyOn}
+use Rattle.blocks.specs.Blocks.{checkBy}
 use Rattle.plans.specs.Plan.{blocksSealed}
 use Rattle.masters.specs.declared.Found.{Found}
 use Rattle.masters.specs.declared.Found.the-variants.{At, Missing, Damaged}
@@ -174,10 +175,10 @@ module _ (c : Call) (rows : ℕ → ℕ → List ℕ → List ℕ) (g : Ready (c
       module _ (im : on x (DelM ∷ []) Imdl (hasPoints (x .schema) b (x .number) (masterIn x)) .refuses ≡ false)
           (fm : on x (AddM ∷ []) Full (addMasterFull b (x .entry) (homeOfKey x c)) .refuses ≡ false)
           (fa : on x adds Full (isFull b (x .entry)) .refuses ≡ false) where
-        stored-add : (u : Operation) → o ≡ u → oneOf u adds ≡ true → blocksSealed b (addStores b t e (c .area) (spotOf u (c .reference)) j (lowestFree b e)) ≡ true
+        stored-add : (u : Operation) → o ≡ u → oneOf u adds ≡ true → blocksSealed (checkBy (t .edition)) b (addStores b t e (c .area) (spotOf u (c .reference)) j (lowestFree b e)) ≡ true
         stored-add u q a = add-storable t (g .world) b rows (g .stands) n j (c .area) (spotOf u (c .reference)) (add-tests t (g .world .ok) c p f u q a h fa)
 
-        stored : (u : Operation) → o ≡ u → blocksSealed b (storesBy u x c) ≡ true
+        stored : (u : Operation) → o ≡ u → blocksSealed (checkBy (t .edition)) b (storesBy u x c) ≡ true
         unfolding sceneUnder blocksSealed
         stored AddM q = rw q (add-master-storable t (g .world) b rows (g .stands) n (c .key) (c .area) (add-master-tests t (g .world .ok) c p f q fm))
         stored DelM q = rw q (del-master-storable t (g .world) b rows (g .stands) n (c .key) (del-master-tests t (g .world .ok) c p f q im))
@@ -197,7 +198,7 @@ module _ (c : Call) (rows : ℕ → ℕ → List ℕ → List ℕ) (g : Ready (c
         stored Readd q = refl
         stored Unknown q = refl
 
-        sealed : blocksSealed b (storesOf x c) ≡ true
+        sealed : blocksSealed (checkBy (t .edition)) b (storesOf x c) ≡ true
         unfolding sceneUnder storesOf
         sealed = stored o refl
 

@@ -16,6 +16,7 @@ use Rattle.terms.specs.Status.{statusNumber}
 use Rattle.terms.specs.Laws.{status-number-one}
 use Rattle.schema.specs.declared.Schema.{Schema}
 use Rattle.schema.specs.Decode.{schemaOf}
+use Rattle.blocks.specs.Blocks.{checkBy}
 use Rattle.plans.specs.Plan.{storeAll, sealAll, committed, formatted}
 use Rattle.points.specs.declared.Spot.the-variants.{Last, After, Before}
 use Rattle.calls.specs.Call.{Call, Outcome, oneOf, adds}
@@ -65,7 +66,7 @@ module _ (c : Call) (rows : AllRows) (g : Ready (c .schema) (c .base) rows) wher
   master-turned : (a : List ℕ) → n < t .masters → MasterStep t b a n → Turned t b a rows (λ l. l)
   master-turned a l s = same-turned t b rows (g .stands) a (master-step-keeps t (g .world) b a rows n l (g .stands) s) (s .areas)
 
-  format-turned : Turned t b (formatted (t .blocks)) rows (λ l i v key. [])
+  format-turned : Turned t b (formatted (checkBy (t .edition)) (t .blocks)) rows (λ l i v key. [])
   format-turned = record { now = λ i v key. []; stands = format-represents t (g .world); shows = λ l i v p h key. refl }
 
   -- ---- every call that is done
@@ -74,7 +75,7 @@ module _ (c : Call) (rows : AllRows) (g : Ready (c .schema) (c .base) rows) wher
     add-by : (u : Operation) → o ≡ u → oneOf u adds ≡ true → AddTests t b n j (c .area) (spotOf u (c .reference))
     add-by u q a = add-tests t (g .world .ok) c p f u q a h (z .1 .1 .0)
 
-    turned-by : (u : Operation) → o ≡ u → Turned t b (cond (oneOf u (Formt ∷ [])) (formatted (t .blocks)) (committed b (storesBy u x c))) rows (stepBy u c (referenceBy u x c))
+    turned-by : (u : Operation) → o ≡ u → Turned t b (cond (oneOf u (Formt ∷ [])) (formatted (checkBy (t .edition)) (t .blocks)) (committed (checkBy (t .edition)) b (storesBy u x c))) rows (stepBy u c (referenceBy u x c))
     unfolding sceneUnder committed storeAll sealAll
     turned-by Formt q = format-turned
     turned-by AddM q =
