@@ -21,6 +21,8 @@ use Rattle.schema.specs.Place.{recordOf, placeOf}
 use Rattle.records.specs.declared.Link.{Link}
 use Rattle.records.specs.Records.{rootNext, rootPrior, isLive}
 use Rattle.records.specs.Areas.{isMaster, areaKeyPlace, areaKeys, liveHead, noLink, keysOn, areaOf, newMaster, newPaths, newVariable}
+use Rattle.blocks.specs.declared.Check.{Check}
+use Rattle.blocks.specs.Blocks.{checkBy}
 use Rattle.plans.specs.Plan.{Store, storeWord, formatted}
 use Rattle.plans.specs.PlanLaws.{AllBytes, bytes-committed, bytes-formatted}
 use Rattle.scan.specs.Scan.{lowestFree}
@@ -62,8 +64,8 @@ nulls n = record { each = bytes-zeros n }
 word : (v : ℕ) → IsBytes (wordBytes v)
 word v = record { each = bytes-wordBytes v }
 
-format : (n : ℕ) → IsBytes (formatted n)
-format n = record { each = bytes-formatted n }
+format : (k : Check) (n : ℕ) → IsBytes (formatted k n)
+format k n = record { each = bytes-formatted k n }
 
 nothing : IsBytes []
 nothing = record { each = λ i. omega arith }
@@ -200,8 +202,8 @@ module _ (x : Scene) (c : Call) (hb : IsBytes (c .base)) (ha : IsBytes (c .area)
   base-done : IsBytes (baseAfter x c)
   unfolding baseAfter storesOf
   base-done =
-      either (oneOf (x .operation) (Formt ∷ [])) (format _)
-      (record { each = bytes-committed (c .base) (storesBy (x .operation) x c) (a-call (x .operation) x c hb ha .each) (hb .each) })
+      either (oneOf (x .operation) (Formt ∷ [])) (format _ _)
+      (record { each = bytes-committed (checkBy (x .schema .edition)) (c .base) (storesBy (x .operation) x c) (a-call (x .operation) x c hb ha .each) (hb .each) })
 
   area-done : IsBytes (areaAfter x c)
   unfolding areaAfter

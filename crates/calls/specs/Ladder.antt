@@ -12,6 +12,7 @@ use Rattle.terms.specs.declared.Status.{Status}
 use Rattle.terms.specs.declared.Status.the-variants.{Done, Schm, Size, Func, Fntf, Kind, Path, Area, Klen, Bctl, Keys, Ivrp, Mrnf, Dupm, Imdl, Full, Damg}
 use Rattle.terms.specs.declared.Operation.{Operation}
 use Rattle.terms.specs.declared.Operation.the-variants.{Formt, Sinon, AddM, DelM, Readm, Writm, Rqloc, Rdnxt, Readv, Readr, Readd, Writv, Addvc, Addvb, Addva, Delvd, Unknown}
+use Rattle.blocks.specs.Blocks.{checkBy}
 use Rattle.schema.specs.declared.Entry.{Entry}
 use Rattle.schema.specs.Decode.{pathOf, setCount}
 use Rattle.schema.specs.Layout.{keepsRules}
@@ -210,7 +211,7 @@ ruleOf OldMasterIntact = on (DelM ∷ []) Damg (λ x c. delMasterDamaged (c .bas
 ruleOf NewPointIntact =
     on adds Damg (λ x c. addDamaged (c .base) (x .schema) (x .entry) (fullArea x c) (spotOf (x .operation) (c .reference)) (x .on))
 ruleOf OldPointIntact = on (Delvd ∷ []) Damg (λ x c. delDamaged (c .base) (x .schema) (x .entry) (c .reference))
-ruleOf ChecksTrue = but [] Damg (λ x c. not (blocksSealed (c .base) (storesOf x c)))
+ruleOf ChecksTrue = but [] Damg (λ x c. not (blocksSealed (checkBy (x .schema .edition)) (c .base) (storesOf x c)))
 
 -- ---- their order: the ladder, and its groups as the code goes down it
 

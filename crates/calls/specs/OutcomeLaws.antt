@@ -15,6 +15,7 @@ use Rattle.calls.specs.Call.{Call, oneOf}
 use Rattle.calls.specs.Scene.{Scene, sceneOf}
 use Rattle.calls.specs.Ladder.{Rung, ruleOf, generalRungs, placeRungs, formRungs, seekRungs, addedRungs, ownRungs, otherRungs, finalRungs, ladder, refuses, refusal}
 use Rattle.calls.specs.Ladder.Rung.{SchemaRules, BaseLength, KnownCall, SetName, SetKind, PathName, AreaLength, KeyLength, KeyTold, AreaKeysTold, AreaKeySame, ReadForm, SweepForm, LastForm, NumberForm, MasterIntact, MasterThere, MasterNew, ReadPoint, NumberPoint, StoredKeys, AddedIntact, AddedThere, OwnIntact, OwnThere, NoPoints, MasterRoom, PointRoom, SoundBase, NextIntact, PriorIntact, NewMasterIntact, OldMasterIntact, NewPointIntact, OldPointIntact, ChecksTrue}
+use Rattle.blocks.specs.Blocks.{checkBy}
 use Rattle.plans.specs.Plan.{formatted, committed}
 use Rattle.plans.specs.PlanLaws.{length-committed, length-formatted}
 use Rattle.terms.specs.Laws.{status-number-one, one-passes}
@@ -125,9 +126,9 @@ unfolding ladder
 sized x c h = eqb-true (length (c .base)) (x .schema .blocks * 512) (not-false _ (passed x c (ladder x) BaseLength refl h))
 
 after-length : (f : Bool) (x : Scene) (c : Call) → length (c .base) ≡ x .schema .blocks * 512
-    → length (cond f (formatted (x .schema .blocks)) (committed (c .base) (storesOf x c))) ≡ length (c .base)
-after-length true x c h = length-formatted (x .schema .blocks) ∙ sym h
-after-length false x c h = length-committed (c .base) (storesOf x c)
+    → length (cond f (formatted (checkBy (x .schema .edition)) (x .schema .blocks)) (committed (checkBy (x .schema .edition)) (c .base) (storesOf x c))) ≡ length (c .base)
+after-length true x c h = length-formatted (checkBy (x .schema .edition)) (x .schema .blocks) ∙ sym h
+after-length false x c h = length-committed (checkBy (x .schema .edition)) (c .base) (storesOf x c)
 
 done-length : (x : Scene) (c : Call) → refusal x c (ladder x) ≡ Done → length (done x c .base) ≡ length (c .base)
 unfolding done baseAfter

@@ -6,6 +6,7 @@ use lib.Dec.{eqb, ltb}
 use Rattle.terms.specs.Terms.{endRef}
 use Rattle.terms.specs.declared.Operation.{Operation}
 use Rattle.terms.specs.declared.Operation.the-variants.{Formt, AddM, DelM, Readm, Writm, Rqloc, Rdnxt, Readv, Readr, Readd, Writv, Addvb, Addva, Delvd}
+use Rattle.blocks.specs.Blocks.{checkBy}
 use Rattle.schema.specs.declared.Path.{Path}
 use Rattle.schema.specs.declared.Entry.{Entry}
 use Rattle.records.specs.Records.{firstOn, lastOn, priorOn, nextOn}
@@ -131,4 +132,4 @@ unfoldable pub storesOf : Scene → Call → List Store
 storesOf x c = storesBy (x .operation) x c
 
 unfoldable pub baseAfter : Scene → Call → List ℕ
-baseAfter x c = cond (oneOf (x .operation) (Formt ∷ [])) (formatted (x .schema .blocks)) (committed (c .base) (storesOf x c))
+baseAfter x c = cond (oneOf (x .operation) (Formt ∷ [])) (formatted (checkBy (x .schema .edition)) (x .schema .blocks)) (committed (checkBy (x .schema .edition)) (c .base) (storesOf x c))

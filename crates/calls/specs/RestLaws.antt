@@ -6,6 +6,7 @@ use mathlib.Core.List.{[], _∷_}
 use Rattle.terms.specs.declared.Status.{Status}
 use Rattle.terms.specs.declared.Status.the-variants.{Done, Keys, Imdl, Full, Damg}
 use Rattle.terms.specs.declared.Operation.the-variants.{Formt, Sinon, AddM, DelM, Readm, Writm, Rqloc, Rdnxt, Readv, Readr, Readd, Writv, Delvd}
+use Rattle.blocks.specs.Blocks.{checkBy}
 use Rattle.plans.specs.Plan.{blocksSealed}
 use Rattle.masters.specs.Root.{addMasterFull, addMasterDamaged, delMasterDamaged}
 use Rattle.points.specs.Chains.{readDamaged, hasPoints}
@@ -19,7 +20,7 @@ use Rattle.calls.specs.LadderLaws.{refusal-passed, others-pass}
 module _ (x : Scene) (c : Call) where
   -- the last test of all: "a block to be stored into has a false check"
   abbrev pub storable : Status
-  storable = cond (not (blocksSealed (c .base) (storesOf x c))) Damg Done
+  storable = cond (not (blocksSealed (checkBy (x .schema .edition)) (c .base) (storesOf x c))) Damg Done
 
   rest-short : oneOf (x .operation) adds ≡ false → oneOf (x .operation) (Delvd ∷ []) ≡ false
       → refusal x c (restRungs x)

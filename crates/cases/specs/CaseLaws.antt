@@ -16,7 +16,7 @@ use Rattle.cases.specs.Small.{smallSchema, bottleCall}
 use Rattle.octets.specs.Octets.{halfAt, wordAt, splice, setWord, every, sumOnto}
 use Rattle.octets.specs.Below.{allBelow, sumBelow, countBelow, lowestFrom, concatBelow}
 use Rattle.terms.specs.Operation.{operationOf}
-use Rattle.blocks.specs.Blocks.{checkOf, isSealed, seal}
+use Rattle.blocks.specs.Blocks.{checkBy, checkOf, isSealed, seal}
 use Rattle.schema.specs.Rules.{blockRule, headRule, nameRule, masterRule, variableRule, recordsRule, pathRule, slotRule, setRule, entryRule, restRule, namesRule, clash, lettersRule, formRule}
 use Rattle.schema.specs.Layout.{linksBefore, keyPlace, linkPlace, bodyPlace, firstBlock, sizeRule, keepsRules}
 use Rattle.schema.specs.Decode.{pathFrom, entryFrom}
@@ -36,7 +36,7 @@ use Rattle.cases.specs.Cases.{Case, after, ask, play, places, table, rig
 
 -- every definition on the way is opened, and the whole table computes to true
 all-right : allRight table ≡ true
-unfolding halfAt wordAt splice setWord every sameBytes sumOnto allBelow sumBelow countBelow lowestFrom operationOf checkOf isSealed seal blockRule headRule nameRule masterRule variableRule recordsRule pathRule slotRule setRule entryRule restRule namesRule clash lettersRule formRule linksBefore keyPlace linkPlace bodyPlace firstBlock sizeRule keepsRules pathFrom entryFrom schemaOf blockOf placeOf newMaster blocksSealed storeAll sealAll committed sealBelow formatted seek find tailFrom lowestFree addMasterFull addMasterDamaged addMasterStores delMasterDamaged delMasterStores setNamed pathNamed sceneUnder given referenceAfter areaAfter storesOf baseAfter refusal wrongKind blankAreaKey otherAreaKey concatBelow hasPoints ladder done outcomeIn outcome twoSets smallSchema bottleCall places play ask table right allRight
+unfolding halfAt wordAt splice setWord every sameBytes sumOnto allBelow sumBelow countBelow lowestFrom operationOf checkBy checkOf isSealed seal blockRule headRule nameRule masterRule variableRule recordsRule pathRule slotRule setRule entryRule restRule namesRule clash lettersRule formRule linksBefore keyPlace linkPlace bodyPlace firstBlock sizeRule keepsRules pathFrom entryFrom schemaOf blockOf placeOf newMaster blocksSealed storeAll sealAll committed sealBelow formatted seek find tailFrom lowestFree addMasterFull addMasterDamaged addMasterStores delMasterDamaged delMasterStores setNamed pathNamed sceneUnder given referenceAfter areaAfter storesOf baseAfter refusal wrongKind blankAreaKey otherAreaKey concatBelow hasPoints ladder done outcomeIn outcome twoSets smallSchema bottleCall places play ask table right allRight
 all-right = refl
 
 -- past the table's end

@@ -19,6 +19,8 @@ use Rattle.schema.specs.Decode.{entryOf, pathOf, schemaOf}
 use Rattle.schema.specs.Guarantee.{IsPathOf}
 use Rattle.records.specs.Records.{keyOn}
 use Rattle.records.specs.Areas.{areaKeyOn}
+use Rattle.blocks.specs.declared.Check.{Check}
+use Rattle.blocks.specs.Blocks.{checkBy}
 use Rattle.plans.specs.Plan.{Store, blocksSealed}
 use Rattle.masters.specs.declared.Found.{Found}
 use Rattle.masters.specs.declared.Found.the-variants.{At, Missing, Damaged}
@@ -58,13 +60,13 @@ not-missing Missing h = sym h
 not-missing Damaged h = refl
 
 -- every block stored into has a true check, as a fact that names its stores; and one row of the table of stores
-record Storable (b : List ℕ) (xs : List Store) : Type 0 where
-  each : blocksSealed b xs ≡ true
+record Storable (k : Check) (b : List ℕ) (xs : List Store) : Type 0 where
+  each : blocksSealed k b xs ≡ true
 
-fits : {b : List ℕ} {xs : List Store} → blocksSealed b xs ≡ true → Storable b xs
+fits : {k : Check} {b : List ℕ} {xs : List Store} → blocksSealed k b xs ≡ true → Storable k b xs
 fits h = record { each = h }
 
-row : {b : List ℕ} (a : Bool) {xs ys : List Store} → (a ≡ true → Storable b xs) → Storable b ys → Storable b (cond a xs ys)
+row : {k : Check} {b : List ℕ} (a : Bool) {xs ys : List Store} → (a ≡ true → Storable k b xs) → Storable k b ys → Storable k b (cond a xs ys)
 row true f k = f refl
 row false f k = k
 
@@ -188,7 +190,7 @@ module _ (c : Call) (rows : ℕ → ℕ → List ℕ → List ℕ) (g : Ready (c
       module _ (im : refuses x c NoPoints ≡ false)
           (fm : refuses x c MasterRoom ≡ false)
           (fa : refuses x c PointRoom ≡ false) where
-        sealed : Storable b (storesOf x c)
+        sealed : Storable (checkBy (t .edition)) b (storesOf x c)
         unfolding sceneUnder storesOf blocksSealed
         sealed =
             row (oneOf o (AddM ∷ [])) (λ q. let u = one-of o AddM q in fits (rw u (add-master-storable t (g .world) b rows (g .stands) n (c .key) (c .area) (add-master-tests t (g .world .ok) c p f u fm))))

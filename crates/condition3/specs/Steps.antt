@@ -16,6 +16,7 @@ use Rattle.terms.specs.Status.{statusNumber}
 use Rattle.terms.specs.Laws.{status-number-one}
 use Rattle.schema.specs.declared.Schema.{Schema}
 use Rattle.schema.specs.Decode.{schemaOf}
+use Rattle.blocks.specs.Blocks.{checkBy}
 use Rattle.plans.specs.Plan.{storeAll, sealAll, committed, formatted}
 use Rattle.points.specs.declared.Spot.the-variants.{Last, After, Before}
 use Rattle.calls.specs.Call.{Call, Outcome, oneOf, adds}
@@ -23,7 +24,7 @@ use Rattle.calls.specs.Scene.{Scene, sceneUnder}
 use Rattle.calls.specs.Ladder.{Rung, otherRungs, finalRungs, refuses}
 use Rattle.calls.specs.Ladder.Rung.{NoPoints, MasterRoom, PointRoom}
 use Rattle.calls.specs.LadderLaws.{Passes}
-use Rattle.calls.specs.OperationLaws.{everyOperation, none-of, EachOf, by-operation}
+use Rattle.calls.specs.OperationLaws.{everyOperation, none-of, by-operation}
 use Rattle.calls.specs.OutcomeLaws.{rungIn, isIn, passed}
 use Rattle.calls.specs.Reply.{spotOf, referenceBy, referenceAfter, storesBy, storesOf, baseAfter}
 use Rattle.calls.specs.Outcome.{done, outcome}
@@ -72,7 +73,7 @@ module _ (c : Call) (rows : AllRows) (g : Ready (c .schema) (c .base) rows) wher
   master-turned : (a : List ℕ) → n < t .masters → MasterStep t b a n → Turned t b a rows (λ l. l)
   master-turned a l s = same-turned t b rows (g .stands) a (master-step-keeps t (g .world) b a rows n l (g .stands) s) (s .areas)
 
-  format-turned : Turned t b (formatted (t .blocks)) rows (λ l i v key. [])
+  format-turned : Turned t b (formatted (checkBy (t .edition)) (t .blocks)) rows (λ l i v key. [])
   format-turned = record { now = λ i v key. []; stands = format-represents t (g .world); shows = λ l i v p h key. refl }
 
   -- ---- every call that is done
@@ -87,46 +88,56 @@ module _ (c : Call) (rows : AllRows) (g : Ready (c .schema) (c .base) rows) wher
 
     -- what a call of this operation does to data base and lists
     abbrev Turns : Operation → Type 0
-    Turns u = o ≡ u → Turned t b (cond (oneOf u (Formt ∷ [])) (formatted (t .blocks)) (committed b (storesBy u x c))) rows (λ l. stepBy u c (referenceBy u x c) l)
+    Turns u =
+        o ≡ u
+        → Turned t b (cond (oneOf u (Formt ∷ [])) (formatted (checkBy (t .edition)) (t .blocks)) (committed (checkBy (t .edition)) b (storesBy u x c))) rows
+        (λ l. stepBy u c (referenceBy u x c) l)
 
-    storing-turned : EachOf Turns storing
+    formt : Turns Formt
+    formt q = format-turned
+
+    addm : Turns AddM
     unfolding sceneUnder
-    storing-turned = (
-      λ q. format-turned,
-      (
-        λ q.
-            let s = add-master-tests t (g .world .ok) c p f q (by MasterRoom refl) in
-            rw q (master-turned _ (s .set) (add-master-step t (g .world) b rows (g .stands) n (c .key) (c .area) s)),
-        (
-          λ q.
-              let s = del-master-tests t (g .world .ok) c p f q (by NoPoints refl) in
-              rw q (master-turned _ (s .set) (del-master-step t (g .world) b rows (g .stands) n (c .key) s)),
-          (
-            λ q.
-                let s = write-master-tests t (g .world .ok) c p f q in
-                rw q (master-turned _ (s .set) (write-master-step t (g .world) b rows (g .stands) n (c .key) (c .area) s)),
-            (
-              λ q. write-turned c rows g (write-tests t (g .world .ok) c p f q),
-              (
-                λ q. add-turned c rows g Last (add-by Addvc q refl) atEnd (λ d k r xs. sym (shown-append d k xs (r ∷ []))),
-                (
-                  λ q. add-turned c rows g (Before (record { 0 = c .reference })) (add-by Addvb q refl) (before (c .reference)) (λ d k r xs. before-shown d k (c .reference) r xs),
-                  (
-                    λ q. add-turned c rows g (After (record { 0 = c .reference })) (add-by Addva q refl) (behind (c .reference)) (λ d k r xs. behind-shown d k (c .reference) r xs),
-                    (λ q. del-turned c rows g (del-tests t (g .world .ok) c p f q), tt),
-                  ),
-                ),
-              ),
-            ),
-          ),
-        ),
-      ),
-    )
+    addm q =
+        let s = add-master-tests t (g .world .ok) c p f q (by MasterRoom refl) in
+        rw q (master-turned _ (s .set) (add-master-step t (g .world) b rows (g .stands) n (c .key) (c .area) s))
+
+    delm : Turns DelM
+    unfolding sceneUnder
+    delm q =
+        let s = del-master-tests t (g .world .ok) c p f q (by NoPoints refl) in
+        rw q (master-turned _ (s .set) (del-master-step t (g .world) b rows (g .stands) n (c .key) s))
+
+    writm : Turns Writm
+    unfolding sceneUnder
+    writm q =
+        let s = write-master-tests t (g .world .ok) c p f q in
+        rw q (master-turned _ (s .set) (write-master-step t (g .world) b rows (g .stands) n (c .key) (c .area) s))
+
+    writv : Turns Writv
+    unfolding sceneUnder
+    writv q = write-turned c rows g (write-tests t (g .world .ok) c p f q)
+
+    addvc : Turns Addvc
+    unfolding sceneUnder
+    addvc q = add-turned c rows g Last (add-by Addvc q refl) atEnd (λ d k r xs. sym (shown-append d k xs (r ∷ [])))
+
+    addvb : Turns Addvb
+    unfolding sceneUnder
+    addvb q = add-turned c rows g (Before (record { 0 = c .reference })) (add-by Addvb q refl) (before (c .reference)) (λ d k r xs. before-shown d k (c .reference) r xs)
+
+    addva : Turns Addva
+    unfolding sceneUnder
+    addva q = add-turned c rows g (After (record { 0 = c .reference })) (add-by Addva q refl) (behind (c .reference)) (λ d k r xs. behind-shown d k (c .reference) r xs)
+
+    delvd : Turns Delvd
+    unfolding sceneUnder
+    delvd q = del-turned c rows g (del-tests t (g .world .ok) c p f q)
 
     -- no other stores anything
-    others-turned : (u : Operation) → oneOf u storing ≡ false → Turns u
+    none : (u : Operation) → oneOf u storing ≡ false → Turns u
     unfolding committed storeAll sealAll
-    others-turned u h q =
+    none u h q =
         rw (no (Formt ∷ []) refl, no (AddM ∷ []) refl, no (DelM ∷ []) refl, no (Writm ∷ []) refl, no (Writv ∷ []) refl, no adds refl, no (Delvd ∷ []) refl, no (Addvc ∷ []) refl, no (Addvb ∷ []) refl, no (Addva ∷ []) refl)
         (nothing-turned t b rows (g .stands))
       where
@@ -134,7 +145,7 @@ module _ (c : Call) (rows : AllRows) (g : Ready (c .schema) (c .base) rows) wher
         no vs e = none-of (λ u. not (oneOf u storing)) (λ u. oneOf u vs) e u (rw h refl)
 
     turned-by : Turns o
-    turned-by = by-operation Turns storing storing-turned o (others-turned o)
+    turned-by = by-operation Turns storing (formt, (addm, (delm, (writm, (writv, (addvc, (addvb, (addva, (delvd, tt))))))))) o (none o)
 
   -- ---- every call
 

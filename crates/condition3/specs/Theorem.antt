@@ -19,6 +19,7 @@ use Rattle.schema.specs.Layout.{keepsRules}
 use Rattle.schema.specs.Decode.{entryOf, schemaOf}
 use Rattle.schema.specs.GuaranteeLaws.{guaranteed}
 use Rattle.records.specs.AreaLaws.{fields-of}
+use Rattle.blocks.specs.Blocks.{checkBy}
 use Rattle.plans.specs.Plan.{blocksSealed, formatted}
 use Rattle.sound.specs.Sound.{sound}
 use Rattle.calls.specs.Call.{Call, Outcome, callOf, oneOf}
@@ -84,7 +85,7 @@ unfolding sceneUnder
 signs-sound c q d = not-false _ (asked (oneOf (operationOf (c .operation)) (Sinon ∷ [])) _ (done-rungs c d .final .1 .1 .1 .0) (rw q refl))
 
 -- what FORMT leaves
-format-leaves : (c : Call) → operationOf (c .operation) ≡ Formt → outcome c .status ≡ Done → outcome c .base ≡ formatted (schemaOf (c .schema) .blocks)
+format-leaves : (c : Call) → operationOf (c .operation) ≡ Formt → outcome c .status ≡ Done → outcome c .base ≡ formatted (checkBy (schemaOf (c .schema) .edition)) (schemaOf (c .schema) .blocks)
 unfolding done baseAfter sceneUnder
 format-leaves c q d = rw (done-is c d) (rw q refl)
 

@@ -16,6 +16,7 @@ use Rattle.schema.specs.Place.{InSet}
 use Rattle.schema.specs.Guarantee.{IsPathOf}
 use Rattle.records.specs.Records.{isLive}
 use Rattle.records.specs.Areas.{areaOf, areaKeyOn, areaBody}
+use Rattle.blocks.specs.Blocks.{checkBy}
 use Rattle.plans.specs.Plan.{storeRun, committed}
 use Rattle.points.specs.Points.{addPlace, addStores, delStores, spotOn}
 use Rattle.chains.specs.Members.{All, all-map}
@@ -109,7 +110,7 @@ module _ (c : Call) (rows : AllRows) (g : Ready (c .schema) (c .base) rows) wher
     r = addPlace b t e (c .area) spot j
 
     abbrev a : List ℕ
-    a = committed b (addStores b t e (c .area) spot j r)
+    a = committed (checkBy (t .edition)) b (addStores b t e (c .area) spot j r)
 
     -- the records of a row are not the new one, and read as they did
     others : (i k : ℕ) → IsPathOf t i k → (key : List ℕ) → shown b (entryOf t i) (rows i k key) ≡ shown a (entryOf t i) (rows i k key)
@@ -137,7 +138,7 @@ module _ (c : Call) (rows : AllRows) (g : Ready (c .schema) (c .base) rows) wher
 
   module _ (ok : DelTests t b n (c .reference)) where
     abbrev deleted : List ℕ
-    deleted = committed b (delStores b t e (c .reference))
+    deleted = committed (checkBy (t .edition)) b (delStores b t e (c .reference))
 
     left-areas : (i q : ℕ) → t .masters ≤ i → i < setCount t → InSet (entryOf t i) q → ((i ≡ n) × (q ≡ c .reference) → ⊥) → areaOf deleted (entryOf t i) q ≡ areaOf b (entryOf t i) q
     left-areas = del-point-step t (g .world) b rows (g .stands) n (c .reference) ok .areas
@@ -162,7 +163,7 @@ module _ (c : Call) (rows : AllRows) (g : Ready (c .schema) (c .base) rows) wher
 
   module _ (ok : WriteTests t b n (c .reference) (c .area)) where
     abbrev written : List ℕ
-    written = committed b (storeRun e (c .reference) (e .body) (areaBody e (c .area)) ∷ [])
+    written = committed (checkBy (t .edition)) b (storeRun e (c .reference) (e .body) (areaBody e (c .area)) ∷ [])
 
     kept-areas : (i q : ℕ) → t .masters ≤ i → i < setCount t → InSet (entryOf t i) q → ((i ≡ n) × (q ≡ c .reference) → ⊥) → areaOf written (entryOf t i) q ≡ areaOf b (entryOf t i) q
     kept-areas = write-point-step t (g .world) b rows (g .stands) n (c .reference) (c .area) ok .areas

@@ -8,7 +8,8 @@ use Rattle.octets.specs.Text.{text}
 use Rattle.octets.specs.Below.{allBelow, sumBelow, countBelow, lowestFrom, concatBelow}
 use Rattle.octets.specs.Octets.{halfAt, wordAt, splice, setWord, every, sameBytes, sumOnto}
 use Rattle.terms.specs.Operation.{operationOf}
-use Rattle.blocks.specs.Blocks.{checkOf, isSealed, seal}
+use Rattle.blocks.specs.declared.Check.the-variants.{Sum}
+use Rattle.blocks.specs.Blocks.{checkBy, checkOf, isSealed, seal}
 use Rattle.schema.specs.Decode.{pathFrom, entryFrom, schemaOf}
 use Rattle.schema.specs.Layout.{linksBefore, keyPlace, linkPlace, bodyPlace, firstBlock, sizeRule, keepsRules}
 use Rattle.schema.specs.Place.{blockOf, placeOf}
@@ -60,6 +61,6 @@ listingPrinted =
     ∷ "8 IMDL 0 -"
     ∷ []
 
-pub listing-prints : session (smallSchema 6) (begun (formatted 2)) (lines listing) ≡ lines listingPrinted
-unfolding xor countBelow otherStoredKey allBelow sumBelow lowestFrom concatBelow halfAt wordAt splice setWord every sameBytes sumOnto operationOf checkOf isSealed seal pathFrom entryFrom schemaOf linksBefore keyPlace linkPlace bodyPlace firstBlock sizeRule keepsRules blockOf placeOf blockRule headRule nameRule masterRule variableRule recordsRule pathRule slotRule setRule entryRule restRule namesRule clash lettersRule formRule areaKeyPlace keysOn areaOf newMaster newPaths newVariable blocksSealed storeAll sealAll committed sealBelow formatted seek find tailFrom lowestFree addMasterFull addMasterDamaged addMasterStores delMasterDamaged delMasterStores hasPoints neighboursAt newPlace addDamaged addStores refusal wrongKind blankAreaKey otherAreaKey readDamaged ladder done outcomeIn outcome given referenceAfter areaAfter storesOf baseAfter setNamed pathNamed sceneUnder twoSets smallSchema endOf isSpelt decimalOnto digitsOnto fieldsMade isRead responded session
+pub listing-prints : session (smallSchema 6) (begun (formatted Sum 2)) (lines listing) ≡ lines listingPrinted
+unfolding xor countBelow otherStoredKey allBelow sumBelow lowestFrom concatBelow halfAt wordAt splice setWord every sameBytes sumOnto operationOf checkBy checkOf isSealed seal pathFrom entryFrom schemaOf linksBefore keyPlace linkPlace bodyPlace firstBlock sizeRule keepsRules blockOf placeOf blockRule headRule nameRule masterRule variableRule recordsRule pathRule slotRule setRule entryRule restRule namesRule clash lettersRule formRule areaKeyPlace keysOn areaOf newMaster newPaths newVariable blocksSealed storeAll sealAll committed sealBelow formatted seek find tailFrom lowestFree addMasterFull addMasterDamaged addMasterStores delMasterDamaged delMasterStores hasPoints neighboursAt addDamaged addStores refusal wrongKind blankAreaKey otherAreaKey readDamaged ladder done outcomeIn outcome given referenceAfter areaAfter storesOf baseAfter setNamed pathNamed sceneUnder twoSets smallSchema endOf isSpelt decimalOnto digitsOnto fieldsMade isRead responded session newPlace
 listing-prints = refl

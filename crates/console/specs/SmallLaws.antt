@@ -14,7 +14,8 @@ use Rattle.octets.specs.Below.{allBelow, sumBelow, countBelow, lowestFrom, conc
 use Rattle.octets.specs.Text.{text}
 use Rattle.terms.specs.declared.Status.the-variants.{Done}
 use Rattle.terms.specs.Operation.{operationOf}
-use Rattle.blocks.specs.Blocks.{checkOf, isSealed, seal}
+use Rattle.blocks.specs.declared.Check.the-variants.{Sum}
+use Rattle.blocks.specs.Blocks.{checkBy, checkOf, isSealed, seal}
 use Rattle.schema.specs.Rules.{blockRule, headRule, nameRule, masterRule, variableRule, recordsRule, pathRule, slotRule, setRule, entryRule, restRule, namesRule, clash, lettersRule, formRule}
 use Rattle.schema.specs.Layout.{linksBefore, keyPlace, linkPlace, bodyPlace, firstBlock, sizeRule, keepsRules}
 use Rattle.schema.specs.Decode.{pathFrom, entryFrom, schemaOf}
@@ -79,6 +80,6 @@ kept-enough number line schema base = go (leb (length line) 129) refl
 
 -- ---- what the program formats, 1,024 zeros, becomes the formatted store of two blocks
 
-pub formats : (outcome (formatCall (smallSchema 6) (zeros 1024)) .status ≡ Done) × (outcome (formatCall (smallSchema 6) (zeros 1024)) .base ≡ formatted 2)
-unfolding halfAt wordAt splice setWord every sameBytes sumOnto allBelow sumBelow lowestFrom concatBelow operationOf checkOf isSealed seal pathFrom entryFrom schemaOf linksBefore keyPlace linkPlace bodyPlace firstBlock sizeRule keepsRules blockRule headRule nameRule masterRule variableRule recordsRule pathRule slotRule setRule entryRule restRule namesRule clash lettersRule formRule sealBelow formatted refusal ladder done outcomeIn outcome baseAfter storesOf blocksSealed countBelow setNamed pathNamed sceneUnder twoSets smallSchema
+pub formats : (outcome (formatCall (smallSchema 6) (zeros 1024)) .status ≡ Done) × (outcome (formatCall (smallSchema 6) (zeros 1024)) .base ≡ formatted Sum 2)
+unfolding halfAt wordAt splice setWord every sameBytes sumOnto allBelow sumBelow lowestFrom concatBelow operationOf checkBy checkOf isSealed seal pathFrom entryFrom schemaOf linksBefore keyPlace linkPlace bodyPlace firstBlock sizeRule keepsRules blockRule headRule nameRule masterRule variableRule recordsRule pathRule slotRule setRule entryRule restRule namesRule clash lettersRule formRule sealBelow formatted refusal ladder done outcomeIn outcome baseAfter storesOf blocksSealed countBelow setNamed pathNamed sceneUnder twoSets smallSchema
 formats = (refl, refl)

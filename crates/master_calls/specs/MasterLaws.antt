@@ -24,7 +24,7 @@ use Rattle.records.specs.Areas.{isMaster}
 use Rattle.masters.specs.declared.Found.{Found}
 use Rattle.masters.specs.declared.Found.the-variants.{At, Missing, Damaged}
 use Rattle.masters.specs.Find.{find, isAt, isMissing, isDamaged}
-use Rattle.calls.specs.SceneLaws.{operation-here, number-here, entry-here}
+use Rattle.calls.specs.SceneLaws.{operation-here, number-here, edition-here, entry-here}
 use Rattle.calls.specs.Call.{Call, Outcome, callOf}
 use Rattle.calls.specs.Scene.{sceneUnder}
 use Rattle.schema.specs.Naming.{setNamed, linkOf}
@@ -101,6 +101,7 @@ module _ (t : Schema) (o : Operation) (n : List ℕ) (r : ℕ) (key area : List 
               number = number-here t c ∙ (rw (h .name) refl);
               entry = entry-here t c ∙ (rw (h .name) refl);
               masters = masters-here t c o k (h .operation) ∙ (rw (h .name) refl);
+              edition = edition-here t c ok i (ltb-true _ _ f);
             };
             known = λ d. record {
               among = among-masters t ok i (ltb-true _ _ f) q;
@@ -201,5 +202,6 @@ module _ {e : Entry} {n : ℕ} (o : Operation) (k : MasterCall o) (s : IsMasterS
       number = number-here (s .schema) asking ∙ names-it;
       entry = entry-here (s .schema) asking ∙ (rw names-it (sym (s .here)));
       masters = masters-here (s .schema) asking o k (letters-ask o) ∙ (rw names-it (sym (s .here)));
+      edition = rw (s .here) (edition-here (s .schema) asking (s .laid .ok) (s .number) (omega (arith, s .among)));
     },
   )

@@ -53,6 +53,7 @@ pub record OnSet (t : Schema) (c : Call) (n : ℕ) (e : Entry) : Type 0 where
   pub number : sceneUnder t c .number ≡ n
   pub entry : sceneUnder t c .entry ≡ e
   pub masters : sceneUnder t c .masters ≡ e
+  pub edition : sceneUnder t c .schema .edition ≡ e .edition
 
 -- 4 to 11 by form, on set number i: a number that no set has is refused, with the schema's first set in its place
 abbrev pub placedAt : Schema → Operation → ℕ → ℕ → List ℕ → List ℕ → Placed

@@ -86,6 +86,7 @@ pub record OnPath (t : Schema) (c : Call) (n : ℕ) (e : Entry) (j : ℕ) (p : P
   pub on : sceneUnder t c .on ≡ j
   pub path : sceneUnder t c .path ≡ p
   pub masters : sceneUnder t c .masters ≡ x
+  pub edition : sceneUnder t c .schema .edition ≡ e .edition
 
 -- a refusal of the set or of its path: its first path stands for the one that is not there, and the set itself for the masters
 abbrev pub nowhereIn : Status → Entry → Located

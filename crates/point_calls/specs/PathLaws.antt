@@ -28,7 +28,7 @@ use Rattle.schema.specs.Guarantee.{SchemaOk}
 use Rattle.records.specs.KindLaws.{behind-masters}
 use Rattle.records.specs.Areas.{isMaster, areaLength, areaKeyOn}
 use Rattle.masters.specs.FindLaws.{inSet-true}
-use Rattle.calls.specs.SceneLaws.{number-here, entry-here, on-here, path-here}
+use Rattle.calls.specs.SceneLaws.{number-here, edition-here, entry-here, on-here, path-here}
 use Rattle.calls.specs.Call.{Call, callOf}
 use Rattle.calls.specs.Scene.{sceneUnder}
 use Rattle.schema.specs.Naming.{setNamed, pathName, pathNamed, linkOf}
@@ -192,6 +192,7 @@ module _ (t : Schema) (o : Operation) (n w : List ℕ) (r : ℕ) (key area : Lis
               on = on-here t c ∙ (rw (h .name, p) refl);
               path = path-here t c ∙ (rw (h .name, p) refl);
               masters = masters-here t c o k (h .operation) ∙ (rw (h .name, p) refl);
+              edition = edition-here t c ok i (ltb-true _ _ f);
             };
             known = λ d. record {
               behind = behind-masters t ok i q;
@@ -250,5 +251,6 @@ module _ {t : Schema} {e : Entry} {on : ℕ} {p : Path} {x : Entry} {n : ℕ} (o
       on = on-here t asking ∙ names-path;
       path = path-here t asking ∙ (rw (names-path, names-set) (sym (u .path ∙ (rw (u .here) refl))));
       masters = masters-here t asking o k (letters-ask o) ∙ (rw (names-path, names-set) (sym (u .masters ∙ (rw (u .here) refl))));
+      edition = rw (u .here) (edition-here t asking (u .laid .ok) (u .number) (u .is .1));
     },
   )

@@ -17,6 +17,7 @@ use Rattle.schema.specs.Place.{InSet}
 use Rattle.records.specs.Records.{keyOn, priorOn}
 use Rattle.records.specs.Areas.{areaBody, areaKeyOn}
 use Rattle.plans.specs.declared.Planned.{Planned}
+use Rattle.blocks.specs.Blocks.{checkBy}
 use Rattle.plans.specs.Plan.{Store, storeRun}
 use Rattle.plans.specs.Stores.{planStores}
 use Rattle.plans.specs.BodyLaws.{body-stores}
@@ -66,10 +67,10 @@ module _ (e : Entry) (p : Path) (x : Entry) (r : ℕ) (key area b : List ℕ) (m
     writv-rest = rest-writv (sceneUnder t c) c is-writv ∙ (rw (at .entry, h .base, h .reference, h .area) refl)
 
     written : otherStoredKey b e r area ≡ false
-        → answered (sceneUnder t c) c (refusal (sceneUnder t c) c (restRungs (sceneUnder t c))) ≡ settled Done b (storeRun e r (e .body) (areaBody e area) ∷ []) r r area
+        → answered (sceneUnder t c) c (refusal (sceneUnder t c) c (restRungs (sceneUnder t c))) ≡ settled (checkBy (e .edition)) Done b (storeRun e r (e .body) (areaBody e area) ∷ []) r r area
     written d =
         rw (← h .base, ← h .reference, ← h .area, ← at .entry)
-        (settled-answers (sceneUnder t c) c _ Done _ (c .reference) (writv-rest ∙ (rw d refl)) (λ z. writv-stores (sceneUnder t c) c is-writv)
+        (settled-answers (sceneUnder t c) c _ _ Done _ (c .reference) (rw (at .entry) (at .edition)) (writv-rest ∙ (rw d refl)) (λ z. writv-stores (sceneUnder t c) c is-writv)
         (λ z. writv-after (sceneUnder t c) c is-writv) (writv-same (sceneUnder t c) c is-writv) (rw is-writv refl))
 
   pub writv-refused : otherStoredKey b e r area ≡ true → AnswersOnPath Writv e p x r key area b Keys r area b
@@ -77,7 +78,7 @@ module _ (e : Entry) (p : Path) (x : Entry) (r : ℕ) (key area b : List ℕ) (m
       record { told = λ t c i on h at. rest-refuses t c i Writv e on p x r key area b writv-call h at Keys (g .status) (writv-rest t c i on h at ∙ (rw d refl)) (omega arith) }
 
   pub writv-ends : {s : Status} {k : ℕ} {new : List ℕ} (q : Planned) → otherStoredKey b e r area ≡ false → q ≡ bodyPlanned (record { 0 = r })
-      → Ends (settled (q .status) b (planStores b e area (q .plan)) r r area) s k area new → AnswersOnPath Writv e p x r key area b s k area new
+      → Ends (settled (checkBy (e .edition)) (q .status) b (planStores b e area (q .plan)) r r area) s k area new → AnswersOnPath Writv e p x r key area b s k area new
   writv-ends q d f v =
       record {
         told = λ t c i on h at.
@@ -158,13 +159,13 @@ module _ (t : Schema) (e : Entry) (on : ℕ) (p : Path) (x : Entry) (r : ℕ) (k
         add-after (sceneUnder t c) c spot is-add
         ∙ (rw (at .entry, at .on, schema-here t c, h .base, h .reference, h .area, ← sp .by-reference) (sym (f d .1)))
 
-    added : answered (sceneUnder t c) c (refusal (sceneUnder t c) c (restRungs (sceneUnder t c))) ≡ settled u b xs after r area
+    added : answered (sceneUnder t c) c (refusal (sceneUnder t c) c (restRungs (sceneUnder t c))) ≡ settled (checkBy (e .edition)) u b xs after r area
     added =
         rw (← h .base, ← h .reference, ← h .area)
-        (settled-answers (sceneUnder t c) c _ u xs after (add-rest (sceneUnder t c) c spot is-add ∙ ap (λ (z : Status). firstOf z (storable (sceneUnder t c) c)) add-status)
+        (settled-answers (sceneUnder t c) c (e .edition) _ u xs after (at .edition) (add-rest (sceneUnder t c) c spot is-add ∙ ap (λ (z : Status). firstOf z (storable (sceneUnder t c) c)) add-status)
         stored returned (add-same (sceneUnder t c) c spot is-add) (add-plain (sceneUnder t c) c spot is-add))
 
-  pub add-ends : {s : Status} {q : ℕ} {new : List ℕ} → Ends (settled u b xs after r area) s q area new → AnswersUnder t (addAt spot) e on p x r key area b s q area new
+  pub add-ends : {s : Status} {q : ℕ} {new : List ℕ} → Ends (settled (checkBy (e .edition)) u b xs after r area) s q area new → AnswersUnder t (addAt spot) e on p x r key area b s q area new
   add-ends v =
       record {
         told = λ c i h at. seen-ends t c i (addAt spot) e on p x r key area b (add-call spot) h at _ (rw (← sp .look) (g .status)) (added c i h at) v;
@@ -203,11 +204,11 @@ module _ (t : Schema) (e : Entry) (on : ℕ) (p : Path) (x : Entry) (r : ℕ) (k
     before : referenceAfter (sceneUnder t c) c ≡ after
     before = delvd-after (sceneUnder t c) c is-delvd ∙ (rw (at .entry, at .path, h .base, h .reference) (sym l))
 
-    deleted : answered (sceneUnder t c) c (refusal (sceneUnder t c) c (restRungs (sceneUnder t c))) ≡ settled u b xs after r area
+    deleted : answered (sceneUnder t c) c (refusal (sceneUnder t c) c (restRungs (sceneUnder t c))) ≡ settled (checkBy (e .edition)) u b xs after r area
     deleted =
         rw (← h .base, ← h .reference, ← h .area)
-        (settled-answers (sceneUnder t c) c _ u xs after (rest-delvd (sceneUnder t c) c is-delvd ∙ ap (λ (z : Status). firstOf z (storable (sceneUnder t c) c)) del-status)
+        (settled-answers (sceneUnder t c) c (e .edition) _ u xs after (at .edition) (rest-delvd (sceneUnder t c) c is-delvd ∙ ap (λ (z : Status). firstOf z (storable (sceneUnder t c) c)) del-status)
         unlinked (λ d. before) (delvd-same (sceneUnder t c) c is-delvd) (rw is-delvd refl))
 
-  pub delvd-ends : {s : Status} {q : ℕ} {new : List ℕ} → Ends (settled u b xs after r area) s q area new → AnswersUnder t Delvd e on p x r key area b s q area new
+  pub delvd-ends : {s : Status} {q : ℕ} {new : List ℕ} → Ends (settled (checkBy (e .edition)) u b xs after r area) s q area new → AnswersUnder t Delvd e on p x r key area b s q area new
   delvd-ends v = record { told = λ c i h at. seen-ends t c i Delvd e on p x r key area b delvd-call h at _ (g .status) (deleted c i h at) v }

@@ -25,6 +25,7 @@ use Rattle.records.specs.KindLaws.{is-variable}
 use Rattle.records.specs.Address.{body, key, prior, next}
 use Rattle.records.specs.Fields.{Fields}
 use Rattle.records.specs.NewLaws.{length-newVariable, new-variable-state, new-variable-key, new-variable-prior, new-variable-next, new-variable-body}
+use Rattle.blocks.specs.Blocks.{checkBy}
 use Rattle.plans.specs.Plan.{Store, storeRecord, blocksSealed, committed}
 use Rattle.points.specs.declared.Spot.{Spot}
 use Rattle.points.specs.PlaceLaws.{newPlace-in, newPlace-free}
@@ -109,19 +110,19 @@ module _ (t : Schema) (w : World t) (b : List ℕ) (rows : ℕ → ℕ → List 
         headed-at _ _ (call .at) (add-new .0 .0) ∙ linked-word adding (prior k) path refl
         ∙ (rw linked at (new-variable-prior (entryOf t i) links area fields variable (ok .area-length) k l (rw linked (side-small adding k l true))))
 
-  pub add-storable : blocksSealed b (addStores b t (entryOf t i) area spot named (addPlace b t (entryOf t i) area spot named)) ≡ true
+  pub add-storable : blocksSealed (checkBy (t .edition)) b (addStores b t (entryOf t i) area spot named (addPlace b t (entryOf t i) area spot named)) ≡ true
   add-storable = rw add-stores (linked-storable adding)
 
-  pub add-point-step : PointStep t b (committed b (addStores b t (entryOf t i) area spot named (addPlace b t (entryOf t i) area spot named))) i (addPlace b t (entryOf t i) area spot named)
+  pub add-point-step : PointStep t b (committed (checkBy (t .edition)) b (addStores b t (entryOf t i) area spot named (addPlace b t (entryOf t i) area spot named))) i (addPlace b t (entryOf t i) area spot named)
   add-point-step = rw add-stores (linked-step adding)
 
-  pub add-area : areaOf (committed b (addStores b t (entryOf t i) area spot named (addPlace b t (entryOf t i) area spot named))) (entryOf t i) (addPlace b t (entryOf t i) area spot named) ≡ area
+  pub add-area : areaOf (committed (checkBy (t .edition)) b (addStores b t (entryOf t i) area spot named (addPlace b t (entryOf t i) area spot named))) (entryOf t i) (addPlace b t (entryOf t i) area spot named) ≡ area
   add-area =
       rw add-stores
       (area-made left (entryOf t i) (call .at) area fields variable (ok .area-length) key-new
       (linked-field adding body (ok .path .1) ∙ new-variable-body (entryOf t i) links area fields variable (ok .area-length)))
 
-  pub add-keeps : Represents t (committed b (addStores b t (entryOf t i) area spot named (addPlace b t (entryOf t i) area spot named))) (rowsAdded t i named area spot (addPlace b t (entryOf t i) area spot named) rows)
+  pub add-keeps : Represents t (committed (checkBy (t .edition)) b (addStores b t (entryOf t i) area spot named (addPlace b t (entryOf t i) area spot named))) (rowsAdded t i named area spot (addPlace b t (entryOf t i) area spot named) rows)
   add-keeps =
       rw add-stores
       (linked-keeps adding (rowsAdded t i named area spot (call .at) rows) (λ k j q d. rw (ne-eqb k i d) refl)

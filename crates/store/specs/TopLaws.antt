@@ -13,6 +13,7 @@ use Rattle.terms.specs.Operation.{operationOf}
 use Rattle.schema.specs.declared.Schema.{Schema}
 use Rattle.schema.specs.Decode.{schemaOf}
 use Rattle.schema.specs.Layout.{keepsRules}
+use Rattle.blocks.specs.Blocks.{checkBy}
 use Rattle.plans.specs.Plan.{storeAll, sealAll, committed, formatted}
 use Rattle.sound.specs.Sound.{sound}
 use Rattle.calls.specs.SceneLaws.{schema-here, operation-here}
@@ -66,11 +67,11 @@ module _ (t : Schema) (c : Call) (kept : keepsRules (c .schema) ≡ true) (here 
     -- ---- FORMT and SINON: "FORMT and SINON test no more parameters"
 
     format-answers : operationOf (c .operation) ≡ Formt
-        → pastGeneral t c ≡ record { status = Done; reference = c .reference; area = c .area; base = formatted (t .blocks) }
+        → pastGeneral t c ≡ record { status = Done; reference = c .reference; area = c .area; base = formatted (checkBy (t .edition)) (t .blocks) }
     unfolding pastGeneral refusal answered done referenceAfter areaAfter given baseAfter
     format-answers e = rw (rest-formt (sceneUnder t c) c (operation-here t c ∙ e), operation-here t c, e, schema-here t c) refl
 
-    pub format-ends : operationOf (c .operation) ≡ Formt → Ends (outcome c) Done (c .reference) (c .area) (formatted (t .blocks))
+    pub format-ends : operationOf (c .operation) ≡ Formt → Ends (outcome c) Done (c .reference) (c .area) (formatted (checkBy (t .edition)) (t .blocks))
     format-ends e = rw (outcome-behind (rw e refl), format-answers e) (record { status = refl; reference = refl; area = refl; base = refl })
 
     sign-on-answers : operationOf (c .operation) ≡ Sinon → pastGeneral t c ≡ answered (sceneUnder t c) c (cond (not (sound t (c .base))) Damg Done)

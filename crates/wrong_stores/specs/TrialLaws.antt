@@ -13,7 +13,7 @@ use Rattle.octets.specs.Octets.{halfAt, wordAt, splice, setWord, zeros, every, 
 use Rattle.octets.specs.Below.{allBelow, sumBelow, countBelow, lowestFrom, concatBelow}
 use Rattle.terms.specs.declared.Status.the-variants.{Done}
 use Rattle.terms.specs.Operation.{operationOf}
-use Rattle.blocks.specs.Blocks.{checkOf, isSealed, seal}
+use Rattle.blocks.specs.Blocks.{checkBy, checkOf, isSealed, seal}
 use Rattle.schema.specs.Rules.{blockRule, headRule, nameRule, masterRule, variableRule, recordsRule, pathRule, slotRule, setRule, entryRule, restRule, namesRule, clash, lettersRule, formRule}
 use Rattle.schema.specs.Layout.{linksBefore, keyPlace, linkPlace, bodyPlace, firstBlock, sizeRule, keepsRules}
 use Rattle.schema.specs.Decode.{pathFrom, entryFrom, schemaOf}
@@ -78,7 +78,7 @@ one-not-end : 1 ≢ endRef
 one-not-end e = omega (arith, e)
 
 pub computed : Computed
-unfolding xor halfAt wordAt splice setWord every sameBytes sumOnto allBelow sumBelow countBelow lowestFrom concatBelow operationOf checkOf isSealed seal blockRule headRule nameRule masterRule variableRule recordsRule pathRule slotRule setRule entryRule restRule namesRule clash lettersRule formRule linksBefore keyPlace linkPlace bodyPlace firstBlock sizeRule keepsRules pathFrom entryFrom schemaOf blockOf placeOf areaKeyPlace keysOn areaOf newMaster newPaths newVariable blocksSealed storeAll sealAll committed sealBelow formatted seek find lowestFree addMasterFull addMasterDamaged addMasterStores readDamaged neighboursAt newPlace addDamaged addStores delDamaged delStores isIn within checksTrue recordClean leftoverClean setClean follow isChain lastOf keysDistinct mastersOfHome homeList homeSound masterSetSound pathList pathSound hasMaster variablePathSound variableSetSound setSound sound refusal wrongKind blankAreaKey otherAreaKey ladder done outcomeIn outcome given referenceAfter areaAfter storesOf baseAfter setNamed pathNamed sceneUnder before step afterCalls plain ofKey twoSets twin refusesAll alwaysDone storesNothing linksFirst everyOther forgetsNext formatLeaves insertsAfter readsForward sweepsNothing answers
+unfolding xor halfAt wordAt splice setWord every sameBytes sumOnto allBelow sumBelow countBelow lowestFrom concatBelow operationOf checkBy checkOf isSealed seal blockRule headRule nameRule masterRule variableRule recordsRule pathRule slotRule setRule entryRule restRule namesRule clash lettersRule formRule linksBefore keyPlace linkPlace bodyPlace firstBlock sizeRule keepsRules pathFrom entryFrom schemaOf blockOf placeOf areaKeyPlace keysOn areaOf newMaster newPaths newVariable blocksSealed storeAll sealAll committed sealBelow formatted seek find lowestFree addMasterFull addMasterDamaged addMasterStores readDamaged neighboursAt addDamaged addStores delDamaged delStores isIn within checksTrue recordClean leftoverClean setClean follow isChain lastOf keysDistinct mastersOfHome homeList homeSound masterSetSound pathList pathSound hasMaster variablePathSound variableSetSound setSound sound refusal wrongKind blankAreaKey otherAreaKey ladder done outcomeIn outcome given referenceAfter areaAfter storesOf baseAfter setNamed pathNamed sceneUnder before step afterCalls plain ofKey twoSets twin refusesAll alwaysDone storesNothing linksFirst everyOther forgetsNext formatLeaves insertsAfter readsForward sweepsNothing answers newPlace
 computed =
     record {
       kept = refl;

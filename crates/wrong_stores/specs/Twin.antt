@@ -4,6 +4,7 @@ use Prim.Native.Nat.{ℕ}
 use mathlib.Core.List.{List, [], _∷_, _++_}
 use Rattle.octets.specs.Octets.{wordBytes, zeros}
 use Rattle.octets.specs.Text.{text}
+use Rattle.blocks.specs.declared.Check.the-variants.{Sum}
 use Rattle.blocks.specs.Blocks.{seal}
 use Rattle.schema.specs.Decode.{schemaOf}
 use Rattle.condition3.specs.Plain.{Point}
@@ -15,7 +16,7 @@ abbrev twinPoints : List ℕ
 twinPoints = text "PNTS" ++ (2 ∷ 2 ∷ 0 ∷ 4 ∷ wordBytes 3 ++ (zeros 4 ++ (text "PT" ++ (zeros 6 ++ (text "QT" ++ zeros 22)))))
 
 unfoldable pub twin : List ℕ
-twin = seal (twoSets botl twinPoints) 0
+twin = seal Sum (twoSets botl twinPoints) 0
 
 abbrev pub bottle : List ℕ
 bottle = text "B001"

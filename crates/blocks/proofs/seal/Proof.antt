@@ -10,8 +10,8 @@ use Rattle.blocks.proofs.seal.Tie as tie
 block-requires : tie.Need-block-requires
 block-requires c κs = search needs
 
-check-requires : tie.Need-check-requires
-check-requires c κs = ap length (c .block .ensures) ∙ length-run _ _ 512 (c .before .before .before .pre)
+check-of-requires : tie.Need-check-of-requires
+check-of-requires c κs = ap length (c .block .ensures) ∙ length-run _ _ 512 (c .before .before .before .pre)
 
 put-check-requires : tie.Need-put-check-requires
 put-check-requires c κs = search needs
@@ -23,8 +23,8 @@ returns : tie.Need-returns
 unfolding seal
 returns c =
     let p = c .before .before in
-    rw (p .put-check .ensures, p .before .before .check .ensures, p .before .before .before .block .ensures) refl
+    rw (p .put-check .ensures, p .before .before .check-of .ensures, p .before .before .before .block .ensures) refl
 
 pub seal-spec : {M : Type 1} → statement M
 seal-spec =
-    tie.close (tie.spec block-requires check-requires put-check-requires same-length returns)
+    tie.close (tie.spec block-requires check-of-requires put-check-requires same-length returns)

@@ -15,10 +15,10 @@ use Rattle.commit.proofs.seal_all.Lts as lts
 use Rattle.blocks.proofs.seal.Reads as seal-reads
 
 abbrev Inv-loop : tie.InvT-loop
-Inv-loop base₀ blocks count k₀ base k = (k ≤ count) × (length base ≡ length base₀) × (sealEach base (drop k (numbersOf blocks)) ≡ sealEach base₀ (numbersOf blocks))
+Inv-loop base₀ kind blocks count k₀ base k = (k ≤ count) × (length base ≡ length base₀) × (sealEach kind base (drop k (numbersOf blocks)) ≡ sealEach kind base₀ (numbersOf blocks))
 
 abbrev μ-loop : tie.MeasureT-loop
-μ-loop base₀ blocks count k₀ base k = count - k
+μ-loop base₀ kind blocks count k₀ base k = count - k
 
 whole : (s : tie.Start Inv-loop μ-loop) → length (s .args .t2 .numbers) ≡ 12
 whole s = sym (length-map (s .args .t2 .numbers) _) ∙ s .good .1 .0 .1 .1 .0 .1 .0 .1
@@ -52,7 +52,7 @@ loop-again c =
     let a = s .args in (
       omega arith,
       k .seal .kept .0 ∙ l .loop .inv .1,
-      rw (k .seal .ensures) (sym (seal-turn (a .t2) (whole s) (omega arith) (l .loop .base) (l .loop .k) (omega arith)) ∙ l .loop .inv .2),
+      rw (k .seal .ensures) (sym (seal-turn (a .t2) (whole s) (omega arith) (s .args .kind) (l .loop .base) (l .loop .k) (omega arith)) ∙ l .loop .inv .2),
     )
 
 same-length : tie.Need-same-length Inv-loop μ-loop
@@ -62,7 +62,7 @@ returns : tie.Need-returns Inv-loop μ-loop
 returns c =
     let l = c .before in
     let s = l .before .before in
-    sym (seal-end (s .args .t2) (whole s) (omega arith) (l .loop .base) (l .loop .k) (omega arith)) ∙ l .loop .inv .2
+    sym (seal-end (s .args .t2) (whole s) (omega arith) (s .args .kind) (l .loop .base) (l .loop .k) (omega arith)) ∙ l .loop .inv .2
 
 pub seal-all-spec : {M : Type 1} → statement M
 seal-all-spec =

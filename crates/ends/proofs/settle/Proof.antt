@@ -13,7 +13,7 @@ ended-requires : tie.Need-ended-requires
 ended-requires c κs = search needs
 
 returns : tie.Need-returns
-returns c = settled-refused _ _ _ _ _ _ (λ z. c .before .if1 .taken (c .before .before .number .ensures ∙ z)) (c .ended .ensures .0) (ap (λ r. r .0) (c .ended .ensures .1))
+returns c = settled-refused _ _ _ _ _ _ _ (λ z. c .before .if1 .taken (c .before .before .number .ensures ∙ z)) (c .ended .ensures .0) (ap (λ r. r .0) (c .ended .ensures .1))
 
 commit-requires : tie.Need-commit-requires
 commit-requires c κs =
@@ -30,7 +30,7 @@ same-length c = search needs
 returns-2 : tie.Need-returns-2
 returns-2 c =
     let e = c .before .before .before .before .before .before in
-    settled-done _ _ _ _ _ _ (sym (e .before .number .ensures) ∙ e .if1 .left) (c .before .before .before .before .commit .ensures .0) (c .before .if2 .taken) (c .before .before .before .before .commit .ensures .1)
+    settled-done _ _ _ _ _ _ _ (sym (e .before .number .ensures) ∙ e .if1 .left) (c .before .before .before .before .commit .ensures .0) (c .before .if2 .taken) (c .before .before .before .before .commit .ensures .1)
     (c .ended2 .ensures .0) (ap (λ r. r .0) (c .ended2 .ensures .1))
 
 ended-requires-3 : tie.Need-ended-requires-3
@@ -42,7 +42,7 @@ same-length-2 c = search needs
 returns-3 : tie.Need-returns-3
 returns-3 c =
     let e = c .before .before .before .before .before .before in
-    settled-damaged _ _ _ _ _ _ (sym (e .before .number .ensures) ∙ e .if1 .left) (c .before .before .before .before .commit .ensures .0) (c .before .if2 .left) (c .before .before .before .before .commit .ensures .1)
+    settled-damaged _ _ _ _ _ _ _ (sym (e .before .number .ensures) ∙ e .if1 .left) (c .before .before .before .before .commit .ensures .0) (c .before .if2 .left) (c .before .before .before .before .commit .ensures .1)
     (c .ended3 .ensures .0) (ap (λ r. r .0) (c .ended3 .ensures .1))
 
 pub settle-spec : {M : Type 1} → statement M

@@ -12,7 +12,7 @@ same-length : tie.Need-same-length
 same-length c = search needs
 
 returns : tie.Need-returns
-returns c = c .before .before .put-check .ensures ∙ zero-seal _ _ (c .before .before .before .before .before .pre .1) (search needs)
+returns c = λ k. c .before .before .put-check .ensures ∙ zero-seal k _ _ (c .before .before .before .before .before .pre .1) (search needs)
 
 pub seal-zeros-spec : {M : Type 1} → statement M
 seal-zeros-spec = tie.close (tie.spec put-check-requires same-length returns)

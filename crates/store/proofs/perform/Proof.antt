@@ -63,7 +63,7 @@ same-length c = search needs
 returns : tie.Need-returns
 returns c =
     let f = c .before .before .before .before .before .before .before in
-    decides-format _ _ _ _ _ _ _ _ (sized f) (told-kind _ (f .of .ensures) (c .before .before .before .before .before .enum-told .given .1)) (c .before .before .before .format .ensures) (c .ended .ensures .0) (ap (λ r. r .0) (c .ended .ensures .1))
+    decides-format _ _ _ _ _ _ _ _ (sized f) (told-kind _ (f .of .ensures) (c .before .before .before .before .before .enum-told .given .1)) (c .before .before .before .format .ensures _) (c .ended .ensures .0) (ap (λ r. r .0) (c .ended .ensures .1))
 
 same-length-2 : tie.Need-same-length-2
 same-length-2 c = search needs

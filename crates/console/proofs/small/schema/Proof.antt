@@ -2,6 +2,7 @@
 use Prim.Native.Nat.{ℕ}
 use mathlib.Core.Path.{ap}
 use mathlib.Core.List.{List}
+use Rattle.blocks.specs.declared.Check.the-variants.{Sum}
 use Rattle.blocks.specs.Blocks.{seal}
 use Rattle.cases.specs.Small.{smallSchema}
 use Rattle.console.specs.SmallLaws.{stored-sets}
@@ -60,7 +61,7 @@ returns c =
     let f = e .before .before .before .before in
     let g = f .before .before .before .before in
     rw (k .seal .ensures, d .copy-in4 .ensures, e .copy-in3 .ensures, f .copy-in2 .ensures, g .copy-in .ensures)
-    (ap (λ (l : List ℕ). seal l 0) stored-sets)
+    (ap (λ (l : List ℕ). seal Sum l 0) stored-sets)
 
 pub schema-spec : {M : Type 1} → statement M
 schema-spec =

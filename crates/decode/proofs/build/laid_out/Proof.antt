@@ -88,9 +88,12 @@ shared-slice-read-t17 c = search needs
 shared-slice-read-t19 : tie.Need-shared-slice-read-t19 Inv-loop μ-loop
 shared-slice-read-t19 c = search needs
 
+shared-slice-read-t21 : tie.Need-shared-slice-read-t21 Inv-loop μ-loop
+shared-slice-read-t21 c = search needs
+
 returns-3 : tie.Need-returns-3 Inv-loop μ-loop
 returns-3 c =
-    let l = c .before .before .before .before in
+    let l = c .before .before .before .before .before in
     let s = now (l .before .before .before .before .args .s) in
     let e : l .loop .i ≡ setsOf s = omega arith in
     let d : LaidOut s (setsOf s) (l .loop .first) (l .loop .entries) = rw e at (l .loop .inv .2) in
@@ -119,4 +122,5 @@ laid-out-spec =
     returns-2
     shared-slice-read-t17
     shared-slice-read-t19
+    shared-slice-read-t21
     returns-3)

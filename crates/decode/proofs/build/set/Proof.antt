@@ -54,6 +54,9 @@ add-t20 c = search needs
 shared-slice-read-t22 : tie.Need-shared-slice-read-t22
 shared-slice-read-t22 c = search needs
 
+shared-slice-read-t24 : tie.Need-shared-slice-read-t24
+shared-slice-read-t24 c = search needs
+
 returns : tie.Need-returns
 returns c = cc
 
@@ -78,4 +81,5 @@ set-spec =
     word-requires-2
     add-t20
     shared-slice-read-t22
+    shared-slice-read-t24
     returns)

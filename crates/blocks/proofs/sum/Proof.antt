@@ -1,12 +1,12 @@
--- `blocks::check` meets its contract: the part lent is the first 127 words.
+-- `blocks::sum` meets its contract: the part lent is the first 127 words.
 use mathlib.Core.Path.{sym}
 use native.Mathlib.Omega.{arith}
 use lib.Seq.{length-take-le}
 use denote.Ref.{now}
 use Rattle.blocks.specs.Blocks.{checkOf}
 use borrow.Author.Needs.{needs}
-use Rattle.blocks.proofs.check.Statement.{statement}
-use Rattle.blocks.proofs.check.Tie as tie
+use Rattle.blocks.proofs.sum.Statement.{statement}
+use Rattle.blocks.proofs.sum.Tie as tie
 
 slice-aggregate-word-sum : tie.Need-slice-aggregate-word-sum
 slice-aggregate-word-sum c =
@@ -20,5 +20,5 @@ returns : tie.Need-returns
 unfolding checkOf
 returns c = c .word-sum .ensures
 
-pub check-spec : {M : Type 1} → statement M
-check-spec = tie.close (tie.spec slice-aggregate-word-sum word-sum-requires returns)
+pub sum-spec : {M : Type 1} → statement M
+sum-spec = tie.close (tie.spec slice-aggregate-word-sum word-sum-requires returns)
