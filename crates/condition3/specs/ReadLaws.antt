@@ -10,7 +10,7 @@ use borrow.Author.Tests.{eq-eqb, ne-eqb, le-leb}
 use Rattle.octets.specs.RunLaws.{eq-sameBytes}
 use Rattle.schema.specs.declared.Entry.{Entry}
 use Rattle.schema.specs.declared.Schema.{Schema}
-use Rattle.schema.specs.Decode.{pathOf, schemaOf, mastersOn}
+use Rattle.schema.specs.Decode.{pathOf, mastersOn}
 use Rattle.records.specs.Records.{masterKey}
 use Rattle.chains.specs.Members.{All, In}
 use Rattle.chains.specs.Segments.{Run, seg-run, seg-reverse, headed-at}

@@ -12,7 +12,7 @@ use Rattle.octets.specs.Below.{lowestFrom, concatBelow}
 use Rattle.terms.specs.Laws.{endRef-high}
 use Rattle.schema.specs.declared.Entry.{Entry}
 use Rattle.schema.specs.declared.Schema.{Schema}
-use Rattle.schema.specs.Decode.{entryOf, pathOf, schemaOf}
+use Rattle.schema.specs.Decode.{entryOf, pathOf}
 use Rattle.schema.specs.Place.{InSet}
 use Rattle.schema.specs.Guarantee.{IsPathOf}
 use Rattle.schema.specs.GuaranteeLaws.{lies}

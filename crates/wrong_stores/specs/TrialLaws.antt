@@ -1,15 +1,13 @@
 -- The trials hold, computed: every definition on the way is opened once, and each equation is `refl`. Besides, what the refutations of
 -- condition 3 ask of the trials: the schema keeps the rules, FORMT is done, the path is one of the schema, the bottle is there, and the plain
 -- list has these points.
-use Prim.Native.Nat.{_*_}
 use mathlib.Core.Path.{_≡_, refl}
 use mathlib.Core.Logic.{_≢_}
-use mathlib.Core.Bool.{true, xor}
+use mathlib.Core.Bool.{xor}
 use mathlib.Core.List.{List, [], _∷_}
 use native.Mathlib.Omega.{arith}
 use lib.Dec.{lit<}
-use lib.ListN.{length}
-use Rattle.octets.specs.Octets.{halfAt, wordAt, splice, setWord, zeros, every, sameBytes, sumOnto}
+use Rattle.octets.specs.Octets.{halfAt, wordAt, splice, setWord, every, sameBytes, sumOnto}
 use Rattle.octets.specs.Below.{allBelow, sumBelow, countBelow, lowestFrom, concatBelow}
 use Rattle.terms.specs.declared.Status.the-variants.{Done}
 use Rattle.terms.specs.Operation.{operationOf}
