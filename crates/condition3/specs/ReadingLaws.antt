@@ -6,7 +6,7 @@ use mathlib.Core.List.{List, [], _∷_}
 use Rattle.terms.specs.declared.Status.{Status}
 use Rattle.calls.specs.Call.{Outcome}
 use Rattle.condition3.specs.Plain.{Point, Lists, step}
-use Rattle.condition3.specs.Readings.{Request, under, Reads}
+use Rattle.condition3.specs.Readings.{Request, Fixed, Lent, noneLent, under, Reads}
 
 -- a point is its number and its area
 abbrev point : ℕ → List ℕ → Point
@@ -26,8 +26,8 @@ reads-one ask r (x ∷ xs) (y ∷ ys) h k =
     let more : xs ≡ ys = reads-one ask (x .number) xs ys (h .4) (rw n (k .4)) in
     cc
 
--- ---- the plain step does not look at the data base
+-- ---- the plain step does not look at what is lent
 
-pub step-unseen : (s b : List ℕ) (q : Request) (u : Status) (r : ℕ) (l : Lists) → step (under s b q) u r l ≡ step (under s [] q) u r l
+pub step-unseen : (f : Fixed) (d : Lent) (q : Request) (u : Status) (r : ℕ) (l : Lists) → step (under f d q) u r l ≡ step (under f noneLent q) u r l
 unfolding step
-step-unseen s b q u r l = refl
+step-unseen f d q u r l = refl
