@@ -106,16 +106,16 @@ abbrev pub rungIn : Rung → List Rung → Rung
 rungIn r [] = r
 rungIn r (q ∷ qs) = cond (eqb (rungNumber q) (rungNumber r)) q (rungIn r qs)
 
-abbrev pub isIn : Rung → List Rung → Bool
-isIn r [] = false
-isIn r (q ∷ qs) = eqb (rungNumber q) (rungNumber r) || isIn r qs
+abbrev pub hasRung : Rung → List Rung → Bool
+hasRung r [] = false
+hasRung r (q ∷ qs) = eqb (rungNumber q) (rungNumber r) || hasRung r qs
 
 -- Of a list that is passed each test is, by its name: in a list that is written out `rungIn r rs` is r.
-pub passed : (x : Scene) (c : Call) (rs : List Rung) (r : Rung) → isIn r rs ≡ true → Passes x c rs → refuses x c (rungIn r rs) ≡ false
+pub passed : (x : Scene) (c : Call) (rs : List Rung) (r : Rung) → hasRung r rs ≡ true → Passes x c rs → refuses x c (rungIn r rs) ≡ false
 passed x c [] r h p = absurd (never-both false h refl)
 passed x c (q ∷ qs) r h p = go (eqb (rungNumber q) (rungNumber r)) h (λ k. passed x c qs r k (p .1))
   where
-    go : (b : Bool) → (b || isIn r qs) ≡ true → (isIn r qs ≡ true → refuses x c (rungIn r qs) ≡ false) → refuses x c (cond b q (rungIn r qs)) ≡ false
+    go : (b : Bool) → (b || hasRung r qs) ≡ true → (hasRung r qs ≡ true → refuses x c (rungIn r qs) ≡ false) → refuses x c (cond b q (rungIn r qs)) ≡ false
     go true h more = p .0
     go false h more = more h
 

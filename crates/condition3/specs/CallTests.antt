@@ -35,7 +35,7 @@ use Rattle.schema.specs.Naming.{setNamed, pathNamed}
 use Rattle.calls.specs.Ladder.{otherStoredKey, Rung, addedRungs, ownRungs, otherRungs, refuses, needers, finders, keyRepeaters, numbered}
 use Rattle.calls.specs.Ladder.Rung.{MasterIntact, MasterThere, MasterNew, NumberPoint, StoredKeys, NoPoints, MasterRoom, PointRoom}
 use Rattle.calls.specs.OperationLaws.{all-of}
-use Rattle.calls.specs.OutcomeLaws.{rungIn, isIn, passed}
+use Rattle.calls.specs.OutcomeLaws.{rungIn, hasRung, passed}
 use Rattle.calls.specs.LadderLaws.{Passes}
 use Rattle.calls.specs.Reply.{homeOfKey, spotOf}
 use Rattle.kept_state.specs.Tests.{AddMasterTests, DelMasterTests, WriteMasterTests, SpotOk, AddTests, DelTests, WriteTests}
@@ -97,7 +97,7 @@ module _ (t : Schema) (ok : SchemaOk t) (c : Call) where
 
   module _ (p : Passes x c parameterRungs) (f : Passes x c foundRungs) where
     -- the test of this name
-    by : (r : Rung) → isIn r foundRungs ≡ true → refuses x c (rungIn r foundRungs) ≡ false
+    by : (r : Rung) → hasRung r foundRungs ≡ true → refuses x c (rungIn r foundRungs) ≡ false
     by r i = passed x c foundRungs r i f
 
     not-damaged : oneOf o finders ≡ true → isDamaged (x .found) ≡ false

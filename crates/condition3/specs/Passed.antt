@@ -27,7 +27,7 @@ use Rattle.schema.specs.Naming.{setNamed, pathNamed}
 use Rattle.calls.specs.Ladder.{wrongKind, blankAreaKey, otherAreaKey, Rung, refuses, arealess, keyless, keyBringers, keyRepeaters, numbered}
 use Rattle.calls.specs.Ladder.Rung.{SetName, SetKind, PathName, AreaLength, KeyTold, AreaKeysTold, AreaKeySame, NumberForm}
 use Rattle.calls.specs.LadderLaws.{Passes}
-use Rattle.calls.specs.OutcomeLaws.{rungIn, isIn, passed}
+use Rattle.calls.specs.OutcomeLaws.{rungIn, hasRung, passed}
 use Rattle.condition3.specs.Calm.{unasked}
 use Rattle.condition3.specs.Outcomes.{parameterRungs}
 
@@ -66,7 +66,7 @@ module _ (t : Schema) (ok : SchemaOk t) (c : Call) where
 
   module _ (h : Passes (sceneUnder t c) c parameterRungs) where
     -- the test of this name
-    by : (r : Rung) → isIn r parameterRungs ≡ true → refuses (sceneUnder t c) c (rungIn r parameterRungs) ≡ false
+    by : (r : Rung) → hasRung r parameterRungs ≡ true → refuses (sceneUnder t c) c (rungIn r parameterRungs) ≡ false
     by r i = passed (sceneUnder t c) c parameterRungs r i h
 
     -- 4

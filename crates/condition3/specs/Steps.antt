@@ -25,7 +25,7 @@ use Rattle.calls.specs.Ladder.{Rung, otherRungs, finalRungs, refuses}
 use Rattle.calls.specs.Ladder.Rung.{NoPoints, MasterRoom, PointRoom}
 use Rattle.calls.specs.LadderLaws.{Passes}
 use Rattle.calls.specs.OperationLaws.{everyOperation, none-of, by-operation}
-use Rattle.calls.specs.OutcomeLaws.{rungIn, isIn, passed}
+use Rattle.calls.specs.OutcomeLaws.{rungIn, hasRung, passed}
 use Rattle.calls.specs.Reply.{spotOf, referenceBy, referenceAfter, storesBy, storesOf, baseAfter}
 use Rattle.calls.specs.Outcome.{done, outcome}
 use Rattle.calls.specs.Theorems.{refused-changes-nothing}
@@ -80,7 +80,7 @@ module _ (c : Call) (rows : AllRows) (g : Ready (c .schema) (c .base) rows) wher
 
   module _ (p : Passes x c parameterRungs) (f : Passes x c foundRungs) (h : Passes x c (otherRungs (x .entry .count))) (z : Passes x c finalRungs) where
     -- the last test of this name
-    by : (r : Rung) → isIn r finalRungs ≡ true → refuses x c (rungIn r finalRungs) ≡ false
+    by : (r : Rung) → hasRung r finalRungs ≡ true → refuses x c (rungIn r finalRungs) ≡ false
     by r i = passed x c finalRungs r i z
 
     add-by : (u : Operation) → o ≡ u → oneOf u adds ≡ true → AddTests t b n j (c .area) (spotOf u (c .reference))

@@ -3,32 +3,11 @@
 -- list has these points.
 use mathlib.Core.Path.{_≡_, refl}
 use mathlib.Core.Logic.{_≢_}
-use mathlib.Core.Bool.{xor}
 use mathlib.Core.List.{List, [], _∷_}
 use native.Mathlib.Omega.{arith}
 use lib.Dec.{lit<}
-use Rattle.octets.specs.Octets.{halfAt, wordAt, splice, setWord, every, sameBytes, sumOnto}
-use Rattle.octets.specs.Below.{allBelow, sumBelow, countBelow, lowestFrom, concatBelow}
 use Rattle.terms.specs.declared.Status.the-variants.{Done}
-use Rattle.terms.specs.Operation.{operationOf}
-use Rattle.blocks.specs.Blocks.{checkBy, checkOf, isSealed, seal}
-use Rattle.schema.specs.Rules.{blockRule, headRule, nameRule, masterRule, variableRule, recordsRule, pathRule, slotRule, setRule, entryRule, restRule, namesRule, clash, lettersRule, formRule}
-use Rattle.schema.specs.Layout.{linksBefore, keyPlace, linkPlace, bodyPlace, firstBlock, sizeRule, keepsRules}
-use Rattle.schema.specs.Decode.{pathFrom, entryFrom, schemaOf}
-use Rattle.schema.specs.Place.{blockOf, placeOf}
-use Rattle.records.specs.Areas.{areaKeyPlace, keysOn, areaOf, newMaster, newPaths, newVariable}
-use Rattle.plans.specs.Plan.{blocksSealed, storeAll, sealAll, committed, sealBelow, formatted}
-use Rattle.scan.specs.Scan.{lowestFree}
-use Rattle.masters.specs.Find.{seek, find}
-use Rattle.masters.specs.Root.{addMasterFull, addMasterDamaged, addMasterStores}
-use Rattle.points.specs.Chains.{readDamaged}
-use Rattle.points.specs.Points.{neighboursAt, newPlace, addDamaged, addStores, delDamaged, delStores}
-use Rattle.sound.specs.Sound.{isIn, within, checksTrue, recordClean, leftoverClean, setClean, follow, isChain, lastOf, keysDistinct, mastersOfHome, homeList, homeSound, masterSetSound, pathList, pathSound, hasMaster, variablePathSound, variableSetSound, setSound, sound}
-use Rattle.calls.specs.Scene.{sceneUnder}
-use Rattle.schema.specs.Naming.{setNamed, pathNamed}
-use Rattle.calls.specs.Ladder.{refusal, wrongKind, blankAreaKey, otherAreaKey, ladder}
-use Rattle.calls.specs.Reply.{given, referenceAfter, areaAfter, storesOf, baseAfter}
-use Rattle.calls.specs.Outcome.{done, outcomeIn, outcome}
+use Rattle.calls.specs.Opened.{opened}
 use Rattle.terms.specs.Terms.{endRef}
 use Rattle.condition3.specs.Plain.{Point, before, step}
 use Rattle.condition3.specs.Condition.{Formattable}
@@ -76,7 +55,7 @@ one-not-end : 1 ≢ endRef
 one-not-end e = omega (arith, e)
 
 pub computed : Computed
-unfolding xor halfAt wordAt splice setWord every sameBytes sumOnto allBelow sumBelow countBelow lowestFrom concatBelow operationOf checkBy checkOf isSealed seal blockRule headRule nameRule masterRule variableRule recordsRule pathRule slotRule setRule entryRule restRule namesRule clash lettersRule formRule linksBefore keyPlace linkPlace bodyPlace firstBlock sizeRule keepsRules pathFrom entryFrom schemaOf blockOf placeOf areaKeyPlace keysOn areaOf newMaster newPaths newVariable blocksSealed storeAll sealAll committed sealBelow formatted seek find lowestFree addMasterFull addMasterDamaged addMasterStores readDamaged neighboursAt addDamaged addStores delDamaged delStores isIn within checksTrue recordClean leftoverClean setClean follow isChain lastOf keysDistinct mastersOfHome homeList homeSound masterSetSound pathList pathSound hasMaster variablePathSound variableSetSound setSound sound refusal wrongKind blankAreaKey otherAreaKey ladder done outcomeIn outcome given referenceAfter areaAfter storesOf baseAfter setNamed pathNamed sceneUnder before step afterCalls plain ofKey twoSets twin refusesAll alwaysDone storesNothing linksFirst everyOther forgetsNext formatLeaves insertsAfter readsForward sweepsNothing answers newPlace
+unfolding opened before step afterCalls plain ofKey twoSets twin refusesAll alwaysDone storesNothing linksFirst everyOther forgetsNext formatLeaves insertsAfter readsForward sweepsNothing answers
 computed =
     record {
       begins = record { rules = refl; sized = refl };
