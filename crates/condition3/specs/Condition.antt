@@ -30,7 +30,7 @@ SignsOn ask = ask sinon .status ≡ Done
 
 -- d is what a FORMT that answered **** left, whatever it was lent
 abbrev pub Formatted : (Call → Outcome) → Fixed → Lent → Type 0
-Formatted answer f d = (e : Lent) × (answer (under f e formt) .status ≡ Done) × (d ≡ lentAfter (answer (under f e formt)))
+Formatted answer f d = (was : Lent) × (answer (under f was formt) .status ≡ Done) × (d ≡ lentAfter (answer (under f was formt)))
 
 abbrev pub Start : (Call → Outcome) → Fixed → Lent → Type 0
 Start answer f d = SignsOn (readerOf answer f d) ⊎ Formatted answer f d
