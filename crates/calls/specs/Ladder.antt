@@ -74,8 +74,8 @@ abbrev pub ownOn : Scene → Call → ℕ → Found
 ownOn x c k = findOn (c .base) (x .schema) (x .entry) k (keyOn (c .base) (x .entry) (c .reference) (pathOf (x .entry) k))
 
 -- the path k is not the named one, whose master comes before them all
-abbrev pub isOther : Scene → ℕ → Bool
-isOther x k = not (eqb k (x .on))
+abbrev pub isOtherPath : Scene → ℕ → Bool
+isOtherPath x k = not (eqb k (x .on))
 
 -- 16 of READV and READR, on their way to the record r
 abbrev pub wayDamaged : Scene → Call → ℕ → Bool
@@ -196,10 +196,10 @@ ruleOf ReadPoint = on chainReads Ivrp (λ x c. not (isLink x c) && strays x c)
 ruleOf NumberPoint = on numbered Ivrp strays
 ruleOf StoredKeys = on (Writv ∷ []) Keys (λ x c. otherStoredKey (c .base) (x .entry) (c .reference) (fullArea x c))
 -- "for adds and DELVD the other paths' masters in path order (16, then 12; in DELVD an absent one is 16)"
-ruleOf (AddedIntact k) = on adds Damg (λ x c. isOther x k && isDamaged (addedOn x c k))
-ruleOf (AddedThere k) = on adds Mrnf (λ x c. isOther x k && isMissing (addedOn x c k))
-ruleOf (OwnIntact k) = on (Delvd ∷ []) Damg (λ x c. isOther x k && isDamaged (ownOn x c k))
-ruleOf (OwnThere k) = on (Delvd ∷ []) Damg (λ x c. isOther x k && isMissing (ownOn x c k))
+ruleOf (AddedIntact k) = on adds Damg (λ x c. isOtherPath x k && isDamaged (addedOn x c k))
+ruleOf (AddedThere k) = on adds Mrnf (λ x c. isOtherPath x k && isMissing (addedOn x c k))
+ruleOf (OwnIntact k) = on (Delvd ∷ []) Damg (λ x c. isOtherPath x k && isDamaged (ownOn x c k))
+ruleOf (OwnThere k) = on (Delvd ∷ []) Damg (λ x c. isOtherPath x k && isMissing (ownOn x c k))
 ruleOf NoPoints = on (DelM ∷ []) Imdl (λ x c. hasPoints (x .schema) (c .base) (x .number) (masterIn x))
 ruleOf MasterRoom = on (AddM ∷ []) Full (λ x c. addMasterFull (c .base) (x .entry) (homeOfKey x c))
 ruleOf PointRoom = on adds Full (λ x c. isFull (c .base) (x .entry))

@@ -63,12 +63,12 @@ askedOf o [] = []
 askedOf o (r ∷ rs) = cond (ruleOf r .asked o) (r ∷ askedOf o rs) (askedOf o rs)
 
 -- what they judge is right
-abbrev pub Holds : Scene → Call → List Rung → Type 0
-Holds x c [] = Unit {0}
-Holds x c (r ∷ rs) = (ruleOf r .broken x c ≡ false) × Holds x c rs
+abbrev pub AllHold : Scene → Call → List Rung → Type 0
+AllHold x c [] = Unit {0}
+AllHold x c (r ∷ rs) = (ruleOf r .broken x c ≡ false) × AllHold x c rs
 
 -- then all of the list pass: the others do not concern the operation
-pub holds-passes : (x : Scene) (c : Call) (o : Operation) → x .operation ≡ o → (rs : List Rung) → Holds x c (askedOf o rs) → Passes x c rs
+pub holds-passes : (x : Scene) (c : Call) (o : Operation) → x .operation ≡ o → (rs : List Rung) → AllHold x c (askedOf o rs) → Passes x c rs
 holds-passes x c o q [] h = tt
 holds-passes x c o q (r ∷ rs) h = go (ruleOf r .asked o) refl (holds-passes x c o q rs) h
   where
@@ -79,7 +79,7 @@ holds-passes x c o q (r ∷ rs) h = go (ruleOf r .asked o) refl (holds-passes x 
     right true b h = h
     right false b h = refl
 
-    go : (b : Bool) → ruleOf r .asked o ≡ b → (Holds x c (askedOf o rs) → Passes x c rs) → Holds x c (cond b (r ∷ askedOf o rs) (askedOf o rs)) → Passes x c (r ∷ rs)
+    go : (b : Bool) → ruleOf r .asked o ≡ b → (AllHold x c (askedOf o rs) → Passes x c rs) → AllHold x c (cond b (r ∷ askedOf o rs) (askedOf o rs)) → Passes x c (r ∷ rs)
     go true e more k = (right (ruleOf r .asked (x .operation)) _ (k .0), more (k .1))
     go false e more k = (left (ruleOf r .asked (x .operation)) _ (ap (ruleOf r .asked) q ∙ e), more k)
 

@@ -27,7 +27,7 @@ use Rattle.calls.specs.Scene.{Scene, sceneOn, sceneUnder, sceneOf}
 use Rattle.calls.specs.Reply.{givenBy, storesOf}
 use Rattle.schema.specs.Naming.{linkOf}
 use Rattle.calls.specs.Ladder.{wrongKind, Rung, generalRungs, finalRungs, ladder}
-use Rattle.calls.specs.LadderLaws.{Passes, others-pass, askedOf, Holds, holds-passes}
+use Rattle.calls.specs.LadderLaws.{Passes, others-pass, askedOf, AllHold, holds-passes}
 use Rattle.condition3.specs.Plain.{setIn, entryIn, pathIn}
 use Rattle.condition3.specs.Outcomes.{parameterRungs, foundRungs, climbed}
 
@@ -103,7 +103,7 @@ pub record Followed (linked : Bool) (c : Call) : Type 0 where
   pub point : (not linked && not (isPointOf (c .base) (entryIn c) (pathFor c) (c .key) (c .reference))) ≡ false
 
 -- a test that an operation has not does not concern it
-has-read : (c : Call) (back : Bool) (rs : List Rung) → Holds (chainScene back c) c (askedOf (readOf back) rs) → Passes (chainScene back c) c rs
+has-read : (c : Call) (back : Bool) (rs : List Rung) → AllHold (chainScene back c) c (askedOf (readOf back) rs) → Passes (chainScene back c) c rs
 has-read c back = holds-passes (chainScene back c) c (readOf back) refl
 
 module _ (c : Call) (m : ℕ) where
@@ -114,7 +114,7 @@ module _ (c : Call) (m : ℕ) where
   pub readm-passes : Granted (entryIn c) m c → isMaster (entryIn c) ≡ true → Passes (masterScene c) c (ladder (masterScene c))
   unfolding wrongKind storesOf blocksSealed
   readm-passes f k =
-      let has : (rs : List Rung) → Holds (masterScene c) c (askedOf Readm rs) → Passes (masterScene c) c rs = holds-passes (masterScene c) c Readm refl in
+      let has : (rs : List Rung) → AllHold (masterScene c) c (askedOf Readm rs) → Passes (masterScene c) c rs = holds-passes (masterScene c) c Readm refl in
       climbed (masterScene c) c (record {
         general = general (entryIn c) f;
         parameters = has parameterRungs (below-passes _ _ (f .known), (rw k refl, (equal-passes _ _ (f .area), (equal-passes _ _ (f .keyed), (f .told, tt)))));

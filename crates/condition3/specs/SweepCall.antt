@@ -20,7 +20,7 @@ use Rattle.calls.specs.Call.{Call}
 use Rattle.calls.specs.Scene.{sceneUnder, sceneOf}
 use Rattle.calls.specs.Reply.{orNone, given, referenceAfter, areaAfter, storesOf}
 use Rattle.calls.specs.Ladder.{wrongKind, Rung, generalRungs, finalRungs, ladder}
-use Rattle.calls.specs.LadderLaws.{Passes, others-pass, askedOf, Holds, holds-passes}
+use Rattle.calls.specs.LadderLaws.{Passes, others-pass, askedOf, AllHold, holds-passes}
 use Rattle.calls.specs.Outcome.{done, outcome}
 use Rattle.condition3.specs.Plain.{setIn, entryIn}
 use Rattle.condition3.specs.Outcomes.{parameterRungs, foundRungs, climbed, outcome-done, Gives}
@@ -38,7 +38,7 @@ module _ (c : Call) (q : operationOf (c .operation) ≡ Rdnxt) (rules : keepsRul
   operation-here = q
 
   -- a test that RDNXT has not does not concern it
-  has : (rs : List Rung) → Holds (sceneOf c) c (askedOf Rdnxt rs) → Passes (sceneOf c) c rs
+  has : (rs : List Rung) → AllHold (sceneOf c) c (askedOf Rdnxt rs) → Passes (sceneOf c) c rs
   has = holds-passes (sceneOf c) c Rdnxt operation-here
 
   passes : Passes (sceneOf c) c (ladder (sceneOf c))
