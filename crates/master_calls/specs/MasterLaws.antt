@@ -38,8 +38,9 @@ use Rattle.ends.specs.AsksLaws.{operationLetters, letters-ask, someone-asks, fo
 use Rattle.ends.specs.FormFacts.{key-length, area-length}
 use Rattle.ends.specs.Asks.{Asks, placedOutcome}
 use Rattle.records.specs.InBase.{Laid, IsMasterSet}
+use Rattle.records.specs.Fields.{Fields}
 use Rattle.ends.specs.Ends.{Ends}
-use Rattle.master_calls.specs.Masters.{MasterCall, NamedCall, SetKnown, OnSet, placedAt, Places}
+use Rattle.master_calls.specs.Masters.{MasterCall, NamedCall, SetKnown, OnSet, placedAt, formedIn, Places}
 
 or-none : (b : Bool) (s t : Status) → cond (b || false) s t ≡ cond b s t
 or-none true s t = refl
@@ -84,12 +85,14 @@ module _ (t : Schema) (o : Operation) (n : List ℕ) (r : ℕ) (key area : List 
   form-so : isMaster e ≡ true → (c : Call) → Asks c o n r key area (c .base) → refusal (sceneUnder t c) c formRungs ≡ formStatus o e 0 0 (e .key) r key area
   form-so m c h = rw (← h .name, ← h .reference, ← h .key, ← h .area) (form-masters t c o k (h .operation) (rw (h .name) m))
 
-  pub places-set : {p : Placed} → SchemaOk t → p ≡ placedAt t o (setNamed t n) r key area → Places t o n r key area p
-  places-set ok h = rw h (go (ltb i (setCount t)) (isMaster e) refl refl)
+  pub places-set : {p q : Placed} → SchemaOk t → q ≡ placedAt t (setNamed t n) → p ≡ formedIn o q r key area → Places t o n r key area p
+  places-set ok g h = rw (h, g) (go (ltb i (setCount t)) (isMaster e) refl refl)
     where
       go : (f m : Bool) → ltb i (setCount t) ≡ f → isMaster e ≡ m
           → Places t o n r key area
-          (cond f (record { status = cond m (formStatus o e 0 0 (e .key) r key area) Kind; number = record { 0 = i }; entry = e }) (record { status = Fntf; number = record { 0 = 0 }; entry = entryOf t 0 }))
+          (formedIn o
+          (cond f (record { status = cond m Done Kind; number = record { 0 = i }; entry = e }) (record { status = Fntf; number = record { 0 = 0 }; entry = entryOf t 0 }))
+          r key area)
       go false m f q =
           record { status = λ c h. rw (first-two c h, f) refl; on-set = refused-done {u = Fntf} refl (omega arith); known = refused-done {u = Fntf} refl (omega arith) }
       go true false f q =
@@ -110,6 +113,18 @@ module _ (t : Schema) (o : Operation) (n : List ℕ) (r : ℕ) (key area : List 
               area = area-length o e 0 0 (e .key) r key area d;
             };
           }
+
+-- a set that is placed has its fields
+pub placed-fields : (t : Schema) (i : ℕ) {q : Placed} {n : ℕ} → Laid t n → q ≡ placedAt t i → q .status ≡ Done → Fields (q .entry) × (isMaster (q .entry) ≡ true)
+placed-fields t i w h = rw h (go (ltb i (setCount t)) (isMaster (entryOf t i)) refl refl)
+  where
+    go : (f m : Bool) → ltb i (setCount t) ≡ f → isMaster (entryOf t i) ≡ m
+        → (let q : Placed =
+        cond f (record { status = cond m Done Kind; number = record { 0 = i }; entry = entryOf t i }) (record { status = Fntf; number = record { 0 = 0 }; entry = entryOf t 0 }) in
+        q .status ≡ Done → Fields (q .entry) × (isMaster (q .entry) ≡ true))
+    go false m f q = refused-done {u = Fntf} refl (omega arith)
+    go true false f q = refused-done {u = Kind} refl (omega arith)
+    go true true f q = λ d. (w .fields i (ltb-true _ _ f), q)
 
 -- a set that is known is the schema's
 pub known-set : {t : Schema} {o : Operation} {k a : List ℕ} {i : ℕ} {e : Entry} {n : ℕ} → Laid t n → SetKnown t o k a i e → IsMasterSet e n

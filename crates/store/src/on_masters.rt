@@ -7,6 +7,7 @@ use master_calls::delm;
 use master_calls::find_set;
 use master_calls::readm;
 use master_calls::rqloc;
+use master_calls::with_forms;
 use master_calls::writm;
 use schema::Entry;
 use schema::Schema;
@@ -56,7 +57,8 @@ pub(crate) fn on_masters(
     requires { ⌜ length (now set) ≡ 4 ⌝ }
     ensures { λ a. ⌜ Answers t (masterOperation m) (now (set .entry)) (reference .0) (now (key .entry)) (now (area .entry)) (now (base .entry)) (a .status) (a .reference .0) (now (area .exit)) (now (base .exit)) ⌝ }
 {
-    let p = find_set(t, m.operation(), set, reference, key, area);
+    let found = find_set(t, set);
+    let p = with_forms(found, m.operation(), reference, key, area);
     let status = p.status;
     if status.number() != 0 {
         return ended(status, reference);

@@ -36,8 +36,9 @@ use Rattle.ends.specs.Ends.{Ends, gave}
 use Rattle.ends.specs.EndsLaws.{gave-answers}
 use Rattle.ends.specs.Asks.{Asks, placedOutcome}
 use Rattle.records.specs.InBase.{Laid, IsSetOf}
+use Rattle.records.specs.Fields.{Fields}
 use Rattle.sweep.specs.declared.AnySet.{AnySet}
-use Rattle.sweep.specs.Swept.{sweptAt, Sweeps, SweptOn}
+use Rattle.sweep.specs.Swept.{sweptAt, formedAny, Sweeps, SweptOn}
 
 -- ---- the ladder
 
@@ -91,11 +92,11 @@ module _ (t : Schema) (n : List ℕ) (r : ℕ) (key area : List ℕ) where
   form-so : (c : Call) → Asks c Rdnxt n r key area (c .base) → refusal (sceneUnder t c) c formRungs ≡ formStatus Rdnxt e 0 0 (e .key) r key area
   form-so c h = rw (← h .name, ← h .reference, ← h .key, ← h .area) (form-sweep t c (h .operation))
 
-  pub sweeps-set : {p : AnySet} → Laid t (512 * t .blocks) → p ≡ sweptAt t (setNamed t n) r key area → Sweeps t n r key area p
-  sweeps-set w h = rw h (go (ltb i (setCount t)) refl)
+  pub sweeps-set : {p q : AnySet} → Laid t (512 * t .blocks) → q ≡ sweptAt t (setNamed t n) → p ≡ formedAny q r key area → Sweeps t n r key area p
+  sweeps-set w g h = rw (h, g) (go (ltb i (setCount t)) refl)
     where
       go : (f : Bool) → ltb i (setCount t) ≡ f
-          → Sweeps t n r key area (cond f (record { status = formStatus Rdnxt e 0 0 (e .key) r key area; entry = e }) (record { status = Fntf; entry = entryOf t 0 }))
+          → Sweeps t n r key area (formedAny (cond f (record { status = Done; entry = e }) (record { status = Fntf; entry = entryOf t 0 })) r key area)
       go false f =
           record { status = λ c h. rw (first-one c h, f) refl; on-set = refused-done {u = Fntf} refl (omega arith); known = refused-done {u = Fntf} refl (omega arith) }
       go true f =
@@ -108,6 +109,15 @@ module _ (t : Schema) (n : List ℕ) (r : ℕ) (key area : List ℕ) where
               area = area-length Rdnxt e 0 0 (e .key) r key area d refl;
             };
           }
+
+-- a set that is there has its fields
+pub swept-fields : (t : Schema) (i : ℕ) {q : AnySet} {n : ℕ} → Laid t n → q ≡ sweptAt t i → q .status ≡ Done → Fields (q .entry)
+swept-fields t i w h = rw h (go (ltb i (setCount t)) refl)
+  where
+    go : (f : Bool) → ltb i (setCount t) ≡ f
+        → (let q : AnySet = cond f (record { status = Done; entry = entryOf t i }) (record { status = Fntf; entry = entryOf t 0 }) in q .status ≡ Done → Fields (q .entry))
+    go false f = refused-done {u = Fntf} refl (omega arith)
+    go true f = λ d. w .fields i (ltb-true _ _ f)
 
 -- ---- the record that it gives
 

@@ -6,26 +6,29 @@ use Rattle.terms.specs.Laws.{status-number-one}
 use Rattle.store.specs.Kinds.{masterOperation}
 use Rattle.store.specs.KindsLaws.{master-call}
 use Rattle.master_calls.specs.Masters.{Places}
-use Rattle.master_calls.specs.MasterLaws.{places-set}
+use Rattle.master_calls.specs.MasterLaws.{places-set, placed-fields}
 use Rattle.store.specs.BehindLaws.{set-refused, set-carried}
 use borrow.Author.Needs.{needs}
 use Rattle.store.proofs.on_masters.on_masters.Statement.{statement}
 use Rattle.store.proofs.on_masters.on_masters.Tie as tie
 
+find-set-requires : tie.Need-find-set-requires
+find-set-requires c κs =
+    let p = c .before .before .before .before .pre in
+    (record { ok = p .0 .ok; fields = p .0 .fields; size = refl }, p .1)
+
 operation-requires : tie.Need-operation-requires
 operation-requires c κs = search needs
 
-find-set-requires : tie.Need-find-set-requires
-find-set-requires c κs =
-    let p = c .before .before .before .before .before .before .pre in
-    (record { ok = p .0 .ok; fields = p .0 .fields; size = refl }, (rw (c .before .operation .ensures) (master-call (c .before .before .before .before .before .before .args .m)), p .1))
+with-forms-requires : tie.Need-with-forms-requires
+with-forms-requires c κs = let f = c .before .before in placed-fields _ _ (f .before .before .before .before .before .pre .0) (f .find-set .ensures)
 
 -- what every call that asks so has come to
-placed : (f : tie.After-find-set)
-    → (let a = f .before .before .before .before .before .before .before .args in Places (a .t) (masterOperation (a .m)) (now (a .set)) (a .reference .0) (now (a .key)) (now (a .area)) (f .find-set .result))
+placed : (f : tie.After-with-forms)
+    → (let a = f .before .before .before .before .before .before .before .before .args in Places (a .t) (masterOperation (a .m)) (now (a .set)) (a .reference .0) (now (a .key)) (now (a .area)) (f .with-forms .result))
 placed f =
-    let s = f .before .before .before .before .before .before .before in
-    places-set _ _ _ _ _ _ (master-call (s .args .m)) (s .pre .0 .ok) (rw (f .before .before .operation .ensures) at (f .find-set .ensures))
+    let s = f .before .before .before .before .before .before .before .before in
+    places-set _ _ _ _ _ _ (master-call (s .args .m)) (s .pre .0 .ok) (f .before .before .before .find-set .ensures) (rw (f .before .before .operation .ensures) at (f .with-forms .ensures))
 
 number-requires : tie.Need-number-requires
 number-requires c κs = search needs
@@ -46,7 +49,7 @@ carry-out-requires : tie.Need-carry-out-requires
 carry-out-requires c κs =
     let f = c .before .before .before .before in
     let k = placed f .known (status-number-one _ Done (sym (c .before .before .before .number .ensures) ∙ c .before .before .if1 .left)) in
-    (c .before .before .before .before .before .before .before .before .before .before .before .pre .0, k)
+    (c .before .before .before .before .before .before .before .before .before .before .before .before .pre .0, k)
 
 same-length-2 : tie.Need-same-length-2
 same-length-2 c = search needs
@@ -63,8 +66,9 @@ pub on-masters-spec : {M : Type 1} → statement M
 on-masters-spec =
     tie.close
     (tie.spec
-    operation-requires
     find-set-requires
+    operation-requires
+    with-forms-requires
     number-requires
     ended-requires
     same-length
