@@ -24,6 +24,7 @@ use Rattle.masters.specs.Find.{find, isMissing, isDamaged, recordFound}
 use Rattle.points.specs.declared.Spot.{Spot}
 use Rattle.points.specs.declared.Spot.the-variants.{Last, After, Before}
 use Rattle.points.specs.Chains.{isPointOf}
+use Rattle.records.specs.InBase.{Laid, MastersOf}
 use Rattle.point_plans.specs.Within.{SpotIn}
 use Rattle.calls.specs.Call.{Call, oneOf, masterCalls, variableCalls, wholeCalls}
 use Rattle.calls.specs.Scene.{sceneUnder}
@@ -78,6 +79,13 @@ pub record PathKnown (t : Schema) (o : Operation) (r : ℕ) (k a : List ℕ) (n 
   pub same : rungsOf o .same ≡ true → areaKeyOn e a j ≡ k
   pub number : rungsOf o .number ≡ true → InSet e r
   pub link : rungsOf o .link ≡ true → (r ≡ linkOf p) ⊎ InSet e r
+
+-- what a call has located is known, under a schema whose base has n bytes, and `all` are the masters of every path
+pub record LocatedIn (o : Operation) (r : ℕ) (k a : List ℕ) (l : Located) (all : List Entry) (n : ℕ) : Type 0 where
+  pub schema : Schema
+  pub laid : Laid schema n
+  pub known : PathKnown schema o r k a (l .number .0) (l .entry) (l .on) (l .path) (l .masters)
+  pub kept : MastersOf schema (l .entry) all
 
 -- the call's scene is on this path of this set
 pub record OnPath (t : Schema) (c : Call) (n : ℕ) (e : Entry) (j : ℕ) (p : Path) (x : Entry) : Type 0 where
@@ -144,12 +152,18 @@ pointerOn back b e p x m r linked = cond linked (cond back (lastOn b x m p) (fir
 
 -- ---- what the calls that store bring
 
+-- is the spot beside a record, so that the add looks at it?
+abbrev pub isBeside : Spot → Bool
+isBeside Last = false
+isBeside (After r) = true
+isBeside (Before r) = true
+
 -- an add's spot, on a path p of the points e, with the reference r
-pub record Spotted (spot : Spot) (e : Entry) (p : Path) (r : ℕ) (looks : Bool) : Type 0 where
+pub record Spotted (spot : Spot) (e : Entry) (p : Path) (r : ℕ) : Type 0 where
   pub by-reference : spot ≡ spotOf (addAt spot) r
   pub in-set : SpotIn spot e
-  pub look : looks ≡ looksAt (addAt spot) p r
-  pub looked : looks ≡ true → InSet e r
+  pub look : isBeside spot ≡ looksAt (addAt spot) p r
+  pub looked : isBeside spot ≡ true → InSet e r
 
 -- ---- how a call ends
 
@@ -157,6 +171,6 @@ pub record Spotted (spot : Spot) (e : Entry) (p : Path) (r : ℕ) (looks : Bool)
 pub record AnswersOnPath (o : Operation) (e : Entry) (p : Path) (x : Entry) (r : ℕ) (k a b : List ℕ) (s : Status) (q : ℕ) (new after : List ℕ) : Type 0 where
   pub told : (t : Schema) (c : Call) (n on : ℕ) → Asks c o (c .name) r k a b → OnPath t c n e on p x → Ends (placedOutcome t c) s q new after
 
--- and under this schema: the adds and DELVD go to the masters of the other paths
-pub record AnswersUnder (t : Schema) (o : Operation) (e : Entry) (on : ℕ) (p : Path) (x : Entry) (r : ℕ) (k a b : List ℕ) (s : Status) (q : ℕ) (new after : List ℕ) : Type 0 where
-  pub told : (c : Call) (n : ℕ) → Asks c o (c .name) r k a b → OnPath t c n e on p x → Ends (placedOutcome t c) s q new after
+-- every call on path number `on`, where `all` are the masters of every path: the adds and DELVD go to those of the other paths
+pub record AnswersAmong (o : Operation) (e : Entry) (on : ℕ) (p : Path) (x : Entry) (all : List Entry) (r : ℕ) (k a b : List ℕ) (s : Status) (q : ℕ) (new after : List ℕ) : Type 0 where
+  pub told : (t : Schema) (c : Call) (n : ℕ) → Asks c o (c .name) r k a b → OnPath t c n e on p x → MastersOf t e all → Ends (placedOutcome t c) s q new after

@@ -12,6 +12,7 @@ use Rattle.terms.specs.declared.Status.{Status}
 use Rattle.terms.specs.declared.Status.the-variants.{Done, Mrnf, Full, Damg}
 use Rattle.terms.specs.declared.Operation.the-variants.{Writv, Addvc, Addvb, Addva, Delvd}
 use Rattle.terms.specs.Status.{statusNumber, firstOf}
+use Rattle.schema.specs.Decode.{mastersOn}
 use Rattle.records.specs.Areas.{areaKeyOn}
 use Rattle.masters.specs.declared.Found.{Found}
 use Rattle.masters.specs.declared.Found.the-variants.{At, Missing, Damaged}
@@ -38,17 +39,17 @@ one-path absent more h false Damaged = refl
 module _ (x : Scene) (c : Call) where
   -- the tests of the first n paths are the status of their masters, if those of each path are
   paths : (absent : Status) (key : ℕ → List ℕ) (f : ℕ → List Rung)
-      → ((k : ℕ) (more : List Rung) → refusal x c (f k ++ more) ≡ firstOf (otherMaster (c .base) (x .schema) (x .entry) (x .on) absent key k) (refusal x c more))
+      → ((k : ℕ) (more : List Rung) → refusal x c (f k ++ more) ≡ firstOf (otherMaster (c .base) (mastersOn (x .schema) (x .entry)) (x .on) absent key k) (refusal x c more))
       → (n : ℕ) (more : List Rung)
-      → refusal x c (concatBelow f n ++ more) ≡ firstOf (otherMasters (c .base) (x .schema) (x .entry) (x .on) absent key n) (refusal x c more)
+      → refusal x c (concatBelow f n ++ more) ≡ firstOf (otherMasters (c .base) (mastersOn (x .schema) (x .entry)) (x .on) absent key n) (refusal x c more)
   unfolding concatBelow otherMasters
   paths absent key f h zero more = refl
   paths absent key f h (suc n) more =
       ap (refusal x c) (append-assoc (concatBelow f n) (f n) more)
       ∙ paths absent key f h n (f n ++ more)
-      ∙ ap (firstOf (otherMasters (c .base) (x .schema) (x .entry) (x .on) absent key n)) (h n more)
-      ∙ sym (firstOf-assoc (otherMasters (c .base) (x .schema) (x .entry) (x .on) absent key n)
-      (otherMaster (c .base) (x .schema) (x .entry) (x .on) absent key n) (refusal x c more))
+      ∙ ap (firstOf (otherMasters (c .base) (mastersOn (x .schema) (x .entry)) (x .on) absent key n)) (h n more)
+      ∙ sym (firstOf-assoc (otherMasters (c .base) (mastersOn (x .schema) (x .entry)) (x .on) absent key n)
+      (otherMaster (c .base) (mastersOn (x .schema) (x .entry)) (x .on) absent key n) (refusal x c more))
 
   -- the adds' keys are the area's, DELVD's are the stored ones
   added-path : oneOf (x .operation) adds ≡ true → (k : ℕ) (more : List Rung)
@@ -85,7 +86,7 @@ module _ (x : Scene) (c : Call) where
   addable = addStatus (c .base) (x .schema) (x .entry) (c .area) (spotOf (x .operation) (c .reference)) (x .on)
 
   abbrev addOthers : Status
-  addOthers = otherMasters (c .base) (x .schema) (x .entry) (x .on) Mrnf (areaKeyOn (x .entry) (c .area)) (x .entry .count)
+  addOthers = otherMasters (c .base) (mastersOn (x .schema) (x .entry)) (x .on) Mrnf (areaKeyOn (x .entry) (c .area)) (x .entry .count)
 
   abbrev addDamage : Bool
   addDamage = addDamaged (c .base) (x .schema) (x .entry) (c .area) (spotOf (x .operation) (c .reference)) (x .on)
@@ -121,7 +122,7 @@ module _ (x : Scene) (c : Call) where
   deletable = delStatus (c .base) (x .schema) (x .entry) (c .reference) (x .on)
 
   abbrev delOthers : Status
-  delOthers = otherMasters (c .base) (x .schema) (x .entry) (x .on) Damg (ownKey (c .base) (x .schema) (x .entry) (c .reference)) (x .entry .count)
+  delOthers = otherMasters (c .base) (mastersOn (x .schema) (x .entry)) (x .on) Damg (ownKey (c .base) (x .schema) (x .entry) (c .reference)) (x .entry .count)
 
   abbrev delDamage : Bool
   delDamage = delDamaged (c .base) (x .schema) (x .entry) (c .reference)

@@ -40,9 +40,9 @@ use Rattle.ends.specs.AsksLaws.{operationLetters, letters-ask, someone-asks}
 use Rattle.ends.specs.FormFacts.{key-length, area-length}
 use Rattle.octets.specs.TestLaws.{asked, either}
 use Rattle.ends.specs.Asks.{Asks, placedStatus}
-use Rattle.records.specs.InBase.{Laid, IsPathUnder, PointsIn}
+use Rattle.records.specs.InBase.{Laid, IsPathUnder, IsPathAmong, MastersOf, PointsIn}
 use Rattle.point_calls.specs.declared.Located.{Located}
-use Rattle.point_calls.specs.OnPath.{PointCall, PathKnown, OnPath, nowhereIn, locatedAt, Locates}
+use Rattle.point_calls.specs.OnPath.{PointCall, PathKnown, LocatedIn, OnPath, nowhereIn, locatedAt, Locates}
 
 -- ---- the eight operations
 
@@ -227,10 +227,14 @@ known-under t o r k a i e on p x laid h =
       masters = h .masters ∙ (rw (h .path) refl);
     }
 
+-- with the masters of every path
+pub known-among : {n : ℕ} {o : Operation} {r : ℕ} {k a : List ℕ} {l : Located} {all : List Entry} → LocatedIn o r k a l all n → IsPathAmong (l .entry) (l .on) (l .path) (l .masters) all n
+known-among h = record { schema = h .schema; under = known-under _ _ _ _ _ _ _ _ _ _ (h .laid) (h .known); kept = h .kept }
+
 -- ---- such a call exists
 
 -- For every operation on points, every path of a schema and all other parameters there is a call that asks so: no statement on the calls of
--- such a path is about none.
+-- such a path is about none. The masters kept of every path, for the adds and DELVD, are that schema's.
 module _ {t : Schema} {e : Entry} {on : ℕ} {p : Path} {x : Entry} {n : ℕ} (o : Operation) (k : PointCall o) (u : IsPathUnder t e on p x n) (r : ℕ) (key area b : List ℕ) where
   abbrev asking : Call
   asking = callOf (operationLetters o) (wordBytes (entryOf t (u .number) .name)) r (pathName t (pathOf (entryOf t (u .number)) on)) key area [] b
@@ -254,3 +258,7 @@ module _ {t : Schema} {e : Entry} {on : ℕ} {p : Path} {x : Entry} {n : ℕ} (o
       edition = rw (u .here) (edition-here t asking (u .laid .ok) (u .number) (u .is .1));
     },
   )
+
+pub someone-calls-among : {e : Entry} {on : ℕ} {p : Path} {x : Entry} {all : List Entry} {n : ℕ} (o : Operation) → PointCall o → (h : IsPathAmong e on p x all n) (r : ℕ) (key area b : List ℕ)
+    → ((c : Call) × Asks c o (c .name) r key area b × OnPath (h .schema) c (h .under .number) e on p x) × MastersOf (h .schema) e all
+someone-calls-among o k h r key area b = (someone-calls-points o k (h .under) r key area b, h .kept)

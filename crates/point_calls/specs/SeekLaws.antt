@@ -32,7 +32,7 @@ use Rattle.ends.specs.AsksLaws.{given-back, found-among, seek-refuses, seek-pas
 use Rattle.ends.specs.Ends.{Ends}
 use Rattle.ends.specs.EndsLaws.{refused-ends}
 use Rattle.point_calls.specs.declared.Sighted.{Sighted}
-use Rattle.point_calls.specs.OnPath.{PointCall, looksAt, OnPath, seekStatus, sightedOf, Seen, AnswersOnPath, AnswersUnder}
+use Rattle.point_calls.specs.OnPath.{PointCall, looksAt, OnPath, seekStatus, sightedOf, Seen, AnswersOnPath, AnswersAmong}
 
 -- ---- what the code has read
 
@@ -51,6 +51,9 @@ seen b e p x r key looks s h k w z =
     let f = one-passes (isDamaged (find b x key)) Damg _ (omega arith) d in
     let g = one-passes (isMissing (find b x key)) Mrnf _ (omega arith) (f .1) in
     rw (h, k) (record { status = d; master = found-one (find b x key) (f .0) (g .0) })
+
+pub seen-as : {b : List ℕ} {e : Entry} {p : Path} {x : Entry} {r : ℕ} {key : List ℕ} {looks same : Bool} {m : RecordNo} → looks ≡ same → Seen b e p x r key looks m → Seen b e p x r key same m
+seen-as q h = rw q at h
 
 -- a record that was looked at is live and of that key
 pub seen-point : (b : List ℕ) (e : Entry) (p : Path) (x : Entry) (r : ℕ) (key : List ℕ) (m : RecordNo) → Seen b e p x r key true m → isPointOf b e p key r ≡ true
@@ -121,5 +124,5 @@ module _ {q : List ℕ} {n : ℕ} (o : Operation) (k : PointCall o) (e : Entry) 
   pub by-seek : AnswersOnPath o e p x r key area b (s .status) r area b
   by-seek = record { told = λ t c m on h at. refused-here t c m o e on p x r key area b k h at (s .status) its-status (positive (s .status) u z) }
 
-  pub by-seek-under : (t : Schema) (on : ℕ) → AnswersUnder t o e on p x r key area b (s .status) r area b
-  by-seek-under t on = record { told = λ c m h at. refused-here t c m o e on p x r key area b k h at (s .status) its-status (positive (s .status) u z) }
+  pub by-seek-among : (on : ℕ) (all : List Entry) → AnswersAmong o e on p x all r key area b (s .status) r area b
+  by-seek-among on all = record { told = λ t c m h at of. by-seek .told t c m on h at }

@@ -16,6 +16,8 @@ use Rattle.schema.specs.Decode.{pathOf}
 use Rattle.schema.specs.Place.{InSet}
 use Rattle.records.specs.Records.{keyOn, priorOn}
 use Rattle.records.specs.Areas.{areaBody, areaKeyOn}
+use Rattle.records.specs.InBase.{IsPathAmong, mastersKept, MastersOf}
+use Rattle.records.specs.InBaseLaws.{named-among}
 use Rattle.plans.specs.declared.Planned.{Planned}
 use Rattle.blocks.specs.Blocks.{checkBy}
 use Rattle.plans.specs.Plan.{Store, storeRun}
@@ -23,9 +25,10 @@ use Rattle.plans.specs.Stores.{planStores}
 use Rattle.plans.specs.BodyLaws.{body-stores}
 use Rattle.plans.specs.Made.{bodyPlanned}
 use Rattle.masters.specs.declared.Found.the-variants.{At}
+use Rattle.masters.specs.Find.{find}
 use Rattle.points.specs.declared.Spot.{Spot}
 use Rattle.points.specs.declared.Spot.the-variants.{Last, After, Before}
-use Rattle.points.specs.Points.{findOn, addPlace, addStores, delStores}
+use Rattle.points.specs.Points.{addPlace, addStores, delStores}
 use Rattle.point_plans.specs.Rest.{addStatus, delStatus}
 use Rattle.calls.specs.SceneLaws.{schema-here, operation-here}
 use Rattle.calls.specs.Call.{Call, oneOf}
@@ -37,9 +40,8 @@ use Rattle.terms.specs.Status.{firstOf}
 use Rattle.calls.specs.RestLaws.{storable, rest-writv}
 use Rattle.ends.specs.Ends.{Ends, settled}
 use Rattle.ends.specs.EndsLaws.{settled-answers}
-use Rattle.ends.specs.Asks.{Asks}
-use Rattle.records.specs.InBase.{IsPathUnder}
-use Rattle.point_calls.specs.OnPath.{PointCall, addAt, OnPath, Seen, Spotted, AnswersOnPath, AnswersUnder}
+use Rattle.ends.specs.Asks.{Asks, placedOutcome}
+use Rattle.point_calls.specs.OnPath.{PointCall, addAt, isBeside, OnPath, Seen, Spotted, AnswersOnPath, AnswersAmong}
 use Rattle.point_calls.specs.PathLaws.{writv-call, addvc-call, addvb-call, addva-call, delvd-call}
 use Rattle.point_calls.specs.SeekLaws.{seen-key, seen-ends, rest-refuses}
 use Rattle.point_calls.specs.OtherLaws.{addable, deletable, rest-addvc, rest-addvb, rest-addva, rest-delvd}
@@ -95,13 +97,13 @@ add-call (After r) = addva-call
 
 -- where each add puts its record
 module _ (e : Entry) (p : Path) (r : ℕ) where
-  pub spotted-last : Spotted Last e p r false
+  pub spotted-last : Spotted Last e p r
   spotted-last = record { by-reference = refl; in-set = tt; look = refl; looked = λ h. absurd (never-both false h refl) }
 
-  pub spotted-before : InSet e r → Spotted (Before (record { 0 = r })) e p r true
+  pub spotted-before : InSet e r → Spotted (Before (record { 0 = r })) e p r
   spotted-before i = record { by-reference = refl; in-set = i; look = refl; looked = λ h. i }
 
-  pub spotted-after : InSet e r → Spotted (After (record { 0 = r })) e p r true
+  pub spotted-after : InSet e r → Spotted (After (record { 0 = r })) e p r
   spotted-after i = record { by-reference = refl; in-set = i; look = refl; looked = λ h. i }
 
 module _ (y : Scene) (c : Call) where
@@ -135,12 +137,12 @@ module _ (y : Scene) (c : Call) where
   add-plain (After r) o = rw o refl
 
 -- the named master is found already
-pub add-finds : {n : ℕ} (t : Schema) (e : Entry) (on : ℕ) (p : Path) (x : Entry) (r : ℕ) (key area b : List ℕ) (looks : Bool) (m : RecordNo) → IsPathUnder t e on p x n
-    → Seen b e p x r key looks m → areaKeyOn e area on ≡ key → findOn b t e on (areaKeyOn e area on) ≡ At m
-add-finds t e on p x r key area b looks m h g k = rw (k, ← h .masters) (g .master)
+pub add-finds : {n : ℕ} (e : Entry) (on : ℕ) (p : Path) (x : Entry) (all : List Entry) (r : ℕ) (key area b : List ℕ) (looks : Bool) (m : RecordNo) → IsPathAmong e on p x all n
+    → Seen b e p x r key looks m → areaKeyOn e area on ≡ key → find b (mastersKept all on) (areaKeyOn e area on) ≡ At m
+add-finds e on p x all r key area b looks m h g k = rw (k, ← named-among h) (g .master)
 
-module _ (t : Schema) (e : Entry) (on : ℕ) (p : Path) (x : Entry) (r : ℕ) (key area b : List ℕ) (spot : Spot) (looks : Bool) (m : RecordNo)
-    (g : Seen b e p x r key looks m) (sp : Spotted spot e p r looks) (u : Status) (xs : List Store) (after : ℕ)
+module _ (t : Schema) (e : Entry) (on : ℕ) (p : Path) (x : Entry) (r : ℕ) (key area b : List ℕ) (spot : Spot) (m : RecordNo)
+    (g : Seen b e p x r key (isBeside spot) m) (sp : Spotted spot e p r) (u : Status) (xs : List Store) (after : ℕ)
     (w : u ≡ addStatus b t e area spot on) (f : u ≡ Done → (xs ≡ addStores b t e area spot on (addPlace b t e area spot on)) × (after ≡ addPlace b t e area spot on)) where
   module _ (c : Call) (i : ℕ) (h : Asks c (addAt spot) (c .name) r key area b) (at : OnPath t c i e on p x) where
     is-add : sceneUnder t c .operation ≡ addAt spot
@@ -165,11 +167,17 @@ module _ (t : Schema) (e : Entry) (on : ℕ) (p : Path) (x : Entry) (r : ℕ) (k
         (settled-answers (sceneUnder t c) c (e .edition) _ u xs after (at .edition) (add-rest (sceneUnder t c) c spot is-add ∙ ap (λ (z : Status). firstOf z (storable (sceneUnder t c) c)) add-status)
         stored returned (add-same (sceneUnder t c) c spot is-add) (add-plain (sceneUnder t c) c spot is-add))
 
-  pub add-ends : {s : Status} {q : ℕ} {new : List ℕ} → Ends (settled (checkBy (e .edition)) u b xs after r area) s q area new → AnswersUnder t (addAt spot) e on p x r key area b s q area new
-  add-ends v =
-      record {
-        told = λ c i h at. seen-ends t c i (addAt spot) e on p x r key area b (add-call spot) h at _ (rw (← sp .look) (g .status)) (added c i h at) v;
-      }
+    add-told : {s : Status} {q : ℕ} {new : List ℕ} → Ends (settled (checkBy (e .edition)) u b xs after r area) s q area new → Ends (placedOutcome t c) s q area new
+    add-told v = seen-ends t c i (addAt spot) e on p x r key area b (add-call spot) h at _ (rw (← sp .look) (g .status)) added v
+
+-- whatever the schema, where the path has these masters
+pub add-ends : {s : Status} {q : ℕ} {new : List ℕ} (e : Entry) (on : ℕ) (p : Path) (x : Entry) (all : List Entry) (r : ℕ) (key area b : List ℕ) (spot : Spot) (m : RecordNo)
+    → Seen b e p x r key (isBeside spot) m → Spotted spot e p r → (u : Status) (xs : List Store) (after : ℕ)
+    → ((t : Schema) → MastersOf t e all
+    → (u ≡ addStatus b t e area spot on) × (u ≡ Done → (xs ≡ addStores b t e area spot on (addPlace b t e area spot on)) × (after ≡ addPlace b t e area spot on)))
+    → Ends (settled (checkBy (e .edition)) u b xs after r area) s q area new → AnswersAmong (addAt spot) e on p x all r key area b s q area new
+add-ends e on p x all r key area b spot m g sp u xs after w v =
+    record { told = λ t c i h at of. add-told t e on p x r key area b spot m g sp u xs after (w t of .0) (w t of .1) c i h at v }
 
 -- ---- DELVD
 
@@ -185,9 +193,9 @@ delvd-same : (y : Scene) (c : Call) → y .operation ≡ Delvd → areaAfter y c
 unfolding areaAfter given
 delvd-same y c o = rw o refl
 
-pub delvd-finds : {n : ℕ} (t : Schema) (e : Entry) (on : ℕ) (p : Path) (x : Entry) (r : ℕ) (key b : List ℕ) (m : RecordNo) → IsPathUnder t e on p x n → Seen b e p x r key true m
-    → findOn b t e on (keyOn b e r (pathOf e on)) ≡ At m
-delvd-finds t e on p x r key b m h g = rw (← h .masters, ← h .path, seen-key b e p x r key m g) (g .master)
+pub delvd-finds : {n : ℕ} (e : Entry) (on : ℕ) (p : Path) (x : Entry) (all : List Entry) (r : ℕ) (key b : List ℕ) (m : RecordNo) → IsPathAmong e on p x all n → Seen b e p x r key true m
+    → find b (mastersKept all on) (keyOn b e r (pathOf e on)) ≡ At m
+delvd-finds e on p x all r key b m h g = rw (← named-among h, ← h .under .path, seen-key b e p x r key m g) (g .master)
 
 module _ (t : Schema) (e : Entry) (on : ℕ) (p : Path) (x : Entry) (r : ℕ) (key area b : List ℕ) (m : RecordNo) (g : Seen b e p x r key true m) (u : Status) (xs : List Store) (after : ℕ)
     (w : u ≡ delStatus b t e r on) (f : u ≡ Done → xs ≡ delStores b t e r) (l : after ≡ orLink p (priorOn b e r p)) where
@@ -210,5 +218,12 @@ module _ (t : Schema) (e : Entry) (on : ℕ) (p : Path) (x : Entry) (r : ℕ) (k
         (settled-answers (sceneUnder t c) c (e .edition) _ u xs after (at .edition) (rest-delvd (sceneUnder t c) c is-delvd ∙ ap (λ (z : Status). firstOf z (storable (sceneUnder t c) c)) del-status)
         unlinked (λ d. before) (delvd-same (sceneUnder t c) c is-delvd) (rw is-delvd refl))
 
-  pub delvd-ends : {s : Status} {q : ℕ} {new : List ℕ} → Ends (settled (checkBy (e .edition)) u b xs after r area) s q area new → AnswersUnder t Delvd e on p x r key area b s q area new
-  delvd-ends v = record { told = λ c i h at. seen-ends t c i Delvd e on p x r key area b delvd-call h at _ (g .status) (deleted c i h at) v }
+    delvd-told : {s : Status} {q : ℕ} {new : List ℕ} → Ends (settled (checkBy (e .edition)) u b xs after r area) s q area new → Ends (placedOutcome t c) s q area new
+    delvd-told v = seen-ends t c i Delvd e on p x r key area b delvd-call h at _ (g .status) deleted v
+
+pub delvd-ends : {s : Status} {q : ℕ} {new : List ℕ} (e : Entry) (on : ℕ) (p : Path) (x : Entry) (all : List Entry) (r : ℕ) (key area b : List ℕ) (m : RecordNo)
+    → Seen b e p x r key true m → (u : Status) (xs : List Store) (after : ℕ)
+    → ((t : Schema) → MastersOf t e all → (u ≡ delStatus b t e r on) × (u ≡ Done → xs ≡ delStores b t e r)) → after ≡ orLink p (priorOn b e r p)
+    → Ends (settled (checkBy (e .edition)) u b xs after r area) s q area new → AnswersAmong Delvd e on p x all r key area b s q area new
+delvd-ends e on p x all r key area b m g u xs after w l v =
+    record { told = λ t c i h at of. delvd-told t e on p x r key area b m g u xs after (w t of .0) (w t of .1) l c i h at v }

@@ -14,7 +14,7 @@ ghost use Prim.Native.Nat.{_*_, _≤_, _<_};
 ghost use lib.ListN.{length};
 ghost use Rattle.schema.specs.Decode.{entryOf, setCount};
 ghost use Rattle.schema.specs.Naming.{setNamed, pathNamed};
-ghost use Rattle.records.specs.InBase.{Laid};
+ghost use Rattle.records.specs.InBase.{Laid, MastersOf, VariableIn};
 ghost use Rattle.point_calls.specs.OnPath.{PointCall, nowhereIn, takenOn, locatedAt};
 
 // A refusal of the set or of its path.
@@ -91,4 +91,20 @@ pub fn find_path(
         return nowhere(Status::Kind, e);
     }
     on_path(t, o, n, e, path, reference, key, area)
+}
+
+// The masters of every path of the points e: the adds and DELVD are handed these, and not the schema.
+pub fn masters_of(t: Schema, e: Entry) -> [Entry; 4]
+    requires { ⌜ VariableIn t e (512 * t .blocks) ⌝ }
+    ensures { λ all. ⌜ MastersOf t e all ⌝ }
+{
+    let count = e.count as usize;
+    let mut all = [e; 4];
+    let mut k: usize = 0;
+    while k < count {
+        let p = path_of(e, k);
+        all[k] = entry_of(t, p.master);
+        k += 1;
+    }
+    all
 }

@@ -17,7 +17,7 @@ use Rattle.terms.specs.Status.{isDone}
 use Rattle.schema.specs.declared.Entry.{Entry}
 use Rattle.schema.specs.declared.Part.{Part}
 use Rattle.schema.specs.declared.Schema.{Schema}
-use Rattle.schema.specs.Decode.{pathOf}
+use Rattle.schema.specs.Decode.{pathOf, mastersOn}
 use Rattle.schema.specs.Place.{InSet, recordOf}
 use Rattle.records.specs.declared.Link.{Link}
 use Rattle.records.specs.Areas.{areaKeyPlace, areaKeyOn, noLink, newPaths, newVariable}
@@ -47,27 +47,27 @@ rest-done false true h = absurd (let z : _≡_ {A = ℕ} 0 1 = cc in omega arith
 rest-done false false h = (refl, refl)
 
 module _ (b : List ℕ) (t : Schema) (e : Entry) (area : List ℕ) (spot : Spot) (on : ℕ) where
-  pub add-refused : {s : Status} → s ≡ otherMasters b t e on Mrnf (areaKeyOn e area) (e .count) → isDone s ≡ false → s ≡ addStatus b t e area spot on
+  pub add-refused : {s : Status} → s ≡ otherMasters b (mastersOn t e) on Mrnf (areaKeyOn e area) (e .count) → isDone s ≡ false → s ≡ addStatus b t e area spot on
   unfolding addStatus
   add-refused h d = rw (← h, d)
 
-  pub add-passed : otherMasters b t e on Mrnf (areaKeyOn e area) (e .count) ≡ Done
+  pub add-passed : otherMasters b (mastersOn t e) on Mrnf (areaKeyOn e area) (e .count) ≡ Done
       → addStatus b t e area spot on ≡ cond (isFull b e) Full (cond (addDamaged b t e area spot on) Damg Done)
   unfolding addStatus
   add-passed h = rw h
 
 module _ (b : List ℕ) (t : Schema) (e : Entry) (r on : ℕ) where
-  pub del-refused : {s : Status} → s ≡ otherMasters b t e on Damg (ownKey b t e r) (e .count) → isDone s ≡ false → s ≡ delStatus b t e r on
+  pub del-refused : {s : Status} → s ≡ otherMasters b (mastersOn t e) on Damg (ownKey b t e r) (e .count) → isDone s ≡ false → s ≡ delStatus b t e r on
   unfolding delStatus
   del-refused h d = rw (← h, d)
 
-  pub del-passed : otherMasters b t e on Damg (ownKey b t e r) (e .count) ≡ Done → delStatus b t e r on ≡ cond (delDamaged b t e r) Damg Done
+  pub del-passed : otherMasters b (mastersOn t e) on Damg (ownKey b t e r) (e .count) ≡ Done → delStatus b t e r on ≡ cond (delDamaged b t e r) Damg Done
   unfolding delStatus
   del-passed h = rw h
 
 -- ---- the words of a plan, for neighbours f that become g
 
-module _ (b : List ℕ) (t : Schema) (e : Entry) (key : ℕ → List ℕ) (owners : List Part) (known : Known b t e key owners) (f g : ℕ → Link) (ls vs : List Link)
+module _ (b : List ℕ) (t : Schema) (e : Entry) (key : ℕ → List ℕ) (owners : List Part) (known : Known b (mastersOn t e) e key owners) (f g : ℕ → Link) (ls vs : List Link)
     (linked : (k : ℕ) → k < e .count → getD ls k noLink ≡ f k) (valued : (k : ℕ) → k < e .count → getD vs k noLink ≡ g k) where
   words-are : (h : Head) (r w : ℕ) (p : Plan) → Built e owners ls vs h r w p → wordStores (wordsOf p) ≡ concatBelow (sidesOn b t e key f g) (e .count)
   words-are h r w p made = ap wordStores (made .words) ∙ sides-are b t e key owners known ls vs f g linked valued
@@ -92,7 +92,7 @@ new-variable-same : (e : Entry) (ls ms : List Link) (area : List ℕ) → ((k : 
 unfolding newVariable
 new-variable-same e ls ms area h = rw (new-paths-same e ls ms area (e .count) 0 (λ k l. h k (omega arith)))
 
-module _ (b : List ℕ) (t : Schema) (e : Entry) (area : List ℕ) (spot : Spot) (on : ℕ) (owners : List Part) (known : Known b t e (areaKeyOn e area) owners) where
+module _ (b : List ℕ) (t : Schema) (e : Entry) (area : List ℕ) (spot : Spot) (on : ℕ) (owners : List Part) (known : Known b (mastersOn t e) e (areaKeyOn e area) owners) where
   abbrev link : ℕ → Link
   link k = addLink b t e area spot on k
 
@@ -126,8 +126,8 @@ module _ (b : List ℕ) (t : Schema) (e : Entry) (area : List ℕ) (spot : Spot)
       → damaged b e area at owners (newLinks b e owners spot on) ≡ false → PlanOk (length b) e p
   add-ok r p made in-set at clean =
       record {
-        few = omega (arith, made .count, known .set .points .few);
-        head = rw (made .head, made .target) (in-set, known .set .points .kind);
+        few = omega (arith, made .count, known .points .few);
+        head = rw (made .head, made .target) (in-set, known .points .kind);
         words = words-fit b t e (areaKeyOn e area) owners known link (λ k. both r) (newLinks b e owners spot on) (bothOn e r) link-at
             (λ k l. getD-upto (λ i. both r) (e .count) k noLink l) Variable r 0 p made area at clean;
         records = words-ok b t e (areaKeyOn e area) owners known link (λ k. both r) (newLinks b e owners spot on) (bothOn e r) link-at
@@ -140,7 +140,7 @@ module _ (b : List ℕ) (t : Schema) (e : Entry) (area : List ℕ) (spot : Spot)
   place-is l = ap (λ (z : Link). newPlace b e (z .prior)) (link-is on l)
 
   -- the whole answer
-  pub add-answer : (at : List ℕ) (a : Planned) → ((k : ℕ) → k < e .count → getD at k 0 ≡ areaKeyPlace e k) → on < e .count → otherMasters b t e on Mrnf (areaKeyOn e area) (e .count) ≡ Done
+  pub add-answer : (at : List ℕ) (a : Planned) → ((k : ℕ) → k < e .count → getD at k 0 ≡ areaKeyPlace e k) → on < e .count → otherMasters b (mastersOn t e) on Mrnf (areaKeyOn e area) (e .count) ≡ Done
       → a .status ≡ cond (isFull b e) Full (cond (damaged b e area at owners (newLinks b e owners spot on)) Damg Done)
       → (a .status ≡ Done → Built e owners (newLinks b e owners spot on) (bothOn e (placeAt b e owners spot on)) Variable (placeAt b e owners spot on) 0 (a .plan))
       → (a .status ≡ addStatus b t e area spot on)
@@ -155,13 +155,13 @@ module _ (b : List ℕ) (t : Schema) (e : Entry) (area : List ℕ) (spot : Spot)
 
 -- ---- DELVD of the record r
 
-module _ (b : List ℕ) (t : Schema) (e : Entry) (r : ℕ) (owners : List Part) (known : Known b t e (ownKey b t e r) owners) where
+module _ (b : List ℕ) (t : Schema) (e : Entry) (r : ℕ) (owners : List Part) (known : Known b (mastersOn t e) e (ownKey b t e r) owners) where
   own-at : (k : ℕ) → k < e .count → getD (ownLinks b e r) k noLink ≡ ownLink b t e r k
   own-at k l = getD-upto (linkOn b e r) (e .count) k noLink l
 
   pub del-damage : (at : List ℕ) → ((k : ℕ) → k < e .count → getD at k 0 ≡ pathOf e k .at) → damaged b e (recordOf b e r) at owners (ownLinks b e r) ≡ delDamaged b t e r
   unfolding delDamaged
-  del-damage at places = damaged-is b t e (ownKey b t e r) owners known (recordOf b e r) at (ownLinks b e r) (ownLink b t e r) (record-key b r at (known .set .points) places) own-at
+  del-damage at places = damaged-is b t e (ownKey b t e r) owners known (recordOf b e r) at (ownLinks b e r) (ownLink b t e r) (record-key b r at (known .points) places) own-at
 
   pub del-stores : (p : Plan) → Built e owners (ownLinks b e r) (ownLinks b e r) Nothing r r p → InSet e r → (area : List ℕ) → planStores b e area p ≡ delStores b t e r
   unfolding planStores delStores
@@ -173,7 +173,7 @@ module _ (b : List ℕ) (t : Schema) (e : Entry) (r : ℕ) (owners : List Part) 
   pub del-ok : (p : Plan) → Built e owners (ownLinks b e r) (ownLinks b e r) Nothing r r p → InSet e r → (at : List ℕ) → damaged b e (recordOf b e r) at owners (ownLinks b e r) ≡ false → PlanOk (length b) e p
   del-ok p made in-set at clean =
       record {
-        few = omega (arith, made .count, known .set .points .few);
+        few = omega (arith, made .count, known .points .few);
         head = rw (made .head) tt;
         words = words-fit b t e (ownKey b t e r) owners known (ownLink b t e r) (ownLink b t e r) (ownLinks b e r) (ownLinks b e r) own-at own-at Nothing r r p made (recordOf b e r) at clean;
         records = words-ok b t e (ownKey b t e r) owners known (ownLink b t e r) (ownLink b t e r) (ownLinks b e r) (ownLinks b e r) own-at own-at Nothing r r p made;
@@ -181,7 +181,7 @@ module _ (b : List ℕ) (t : Schema) (e : Entry) (r : ℕ) (owners : List Part) 
       }
 
   pub del-answer : (at : List ℕ) (on : ℕ) (a : Planned) → ((k : ℕ) → k < e .count → getD at k 0 ≡ pathOf e k .at) → InSet e r
-      → otherMasters b t e on Damg (ownKey b t e r) (e .count) ≡ Done → a .status ≡ cond (damaged b e (recordOf b e r) at owners (ownLinks b e r)) Damg Done
+      → otherMasters b (mastersOn t e) on Damg (ownKey b t e r) (e .count) ≡ Done → a .status ≡ cond (damaged b e (recordOf b e r) at owners (ownLinks b e r)) Damg Done
       → (a .status ≡ Done → Built e owners (ownLinks b e r) (ownLinks b e r) Nothing r r (a .plan))
       → (a .status ≡ delStatus b t e r on)
       × (a .status ≡ Done → ((area : List ℕ) → planStores b e area (a .plan) ≡ delStores b t e r) × PlanOk (length b) e (a .plan) × (a .plan .head ≡ Nothing))

@@ -2,7 +2,9 @@
 use super::kinds::OnPoints;
 use ends::Answer;
 use ends::ended;
+use point_calls::Located;
 use point_calls::paths::find_path;
+use point_calls::paths::masters_of;
 use point_calls::reads::read_along;
 use point_calls::reads::readd;
 use point_calls::writes::addva;
@@ -11,44 +13,37 @@ use point_calls::writes::addvc;
 use point_calls::writes::delvd;
 use point_calls::writes::writv;
 use schema::Entry;
-use schema::Path;
 use schema::Schema;
-use terms::EntryNo;
 use terms::Reference;
 ghost use mathlib.Core.Path.{_≡_};
 ghost use lib.ListN.{length};
 ghost use Rattle.records.specs.InBase.{Laid};
-ghost use Rattle.point_calls.specs.OnPath.{PathKnown, AnswersUnder};
+ghost use Rattle.point_calls.specs.OnPath.{LocatedIn, AnswersAmong};
 ghost use Rattle.store.specs.Kinds.{pointOperation};
 ghost use Rattle.store.specs.Decides.{AnswersNamed};
 
-// Set and path are known and the parameters have their forms.
+// Set and path are known and the parameters have their forms. `all` are the masters of every path.
 fn carry_out(
-    t: Schema,
     m: OnPoints,
-    n: EntryNo,
-    e: Entry,
-    on: usize,
-    p: Path,
-    x: Entry,
+    l: Located,
+    all: [Entry; 4],
     reference: Reference,
     key: &[u8],
     area: &mut [u8],
     base: &mut [u8],
 ) -> Answer
-    requires { ⌜ Laid t (length (now base)) ⌝ }
-    requires { ⌜ PathKnown t (pointOperation m) (reference .0) (now key) (now area) (n .0) e on p x ⌝ }
-    ensures { λ a. ⌜ AnswersUnder t (pointOperation m) e on p x (reference .0) (now (key .entry)) (now (area .entry)) (now (base .entry)) (a .status) (a .reference .0) (now (area .exit)) (now (base .exit)) ⌝ }
+    requires { ⌜ LocatedIn (pointOperation m) (reference .0) (now key) (now area) l all (length (now base)) ⌝ }
+    ensures { λ a. ⌜ AnswersAmong (pointOperation m) (l .entry) (l .on) (l .path) (l .masters) all (reference .0) (now (key .entry)) (now (area .entry)) (now (base .entry)) (a .status) (a .reference .0) (now (area .exit)) (now (base .exit)) ⌝ }
 {
     match m {
-        OnPoints::ReadNext => read_along(e, p, x, reference, key, false, area, base),
-        OnPoints::ReadPrior => read_along(e, p, x, reference, key, true, area, base),
-        OnPoints::Read => readd(e, p, x, reference, key, area, base),
-        OnPoints::Write => writv(e, p, x, reference, key, area, base),
-        OnPoints::AddLast => addvc(t, e, on, p, x, reference, key, area, base),
-        OnPoints::AddBefore => addvb(t, e, on, p, x, reference, key, area, base),
-        OnPoints::AddAfter => addva(t, e, on, p, x, reference, key, area, base),
-        OnPoints::Delete => delvd(t, e, on, p, x, reference, key, area, base),
+        OnPoints::ReadNext => read_along(l, reference, key, false, area, base),
+        OnPoints::ReadPrior => read_along(l, reference, key, true, area, base),
+        OnPoints::Read => readd(l, reference, key, area, base),
+        OnPoints::Write => writv(l, reference, key, area, base),
+        OnPoints::AddLast => addvc(l, all, reference, key, area, base),
+        OnPoints::AddBefore => addvb(l, all, reference, key, area, base),
+        OnPoints::AddAfter => addva(l, all, reference, key, area, base),
+        OnPoints::Delete => delvd(l, all, reference, key, area, base),
     }
 }
 
@@ -71,17 +66,6 @@ pub(crate) fn on_points(
     if status.number() != 0 {
         return ended(status, reference);
     }
-    carry_out(
-        t,
-        m,
-        l.number,
-        l.entry,
-        l.on,
-        l.path,
-        l.masters,
-        reference,
-        key,
-        area,
-        base,
-    )
+    let all = masters_of(t, l.entry);
+    carry_out(m, l, all, reference, key, area, base)
 }

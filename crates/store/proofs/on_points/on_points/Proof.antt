@@ -5,7 +5,8 @@ use Rattle.terms.specs.declared.Status.the-variants.{Done}
 use Rattle.terms.specs.Laws.{status-number-one}
 use Rattle.store.specs.Kinds.{pointOperation}
 use Rattle.store.specs.KindsLaws.{point-call}
-use Rattle.point_calls.specs.OnPath.{Locates}
+use Rattle.records.specs.InBaseLaws.{variable-in}
+use Rattle.point_calls.specs.OnPath.{PathKnown, Locates}
 use Rattle.point_calls.specs.PathLaws.{locates-path}
 use Rattle.store.specs.BehindLaws.{path-refused, path-carried}
 use borrow.Author.Needs.{needs}
@@ -20,11 +21,14 @@ find-path-requires c κs =
     let p = c .before .before .before .before .before .before .before .pre in
     (record { ok = p .0 .ok; fields = p .0 .fields; size = refl }, (rw (c .before .operation .ensures) (point-call (c .before .before .before .before .before .before .before .args .m)), p .1))
 
+abbrev start : tie.After-find-path → tie.Start
+start f = f .before .before .before .before .before .before .before .before
+
 -- what every call that asks so has come to
 placed : (f : tie.After-find-path)
-    → (let a = f .before .before .before .before .before .before .before .before .args in Locates (a .t) (pointOperation (a .m)) (now (a .set)) (now (a .path)) (a .reference .0) (now (a .key)) (now (a .area)) (f .find-path .result))
+    → (let a = start f .args in Locates (a .t) (pointOperation (a .m)) (now (a .set)) (now (a .path)) (a .reference .0) (now (a .key)) (now (a .area)) (f .find-path .result))
 placed f =
-    let s = f .before .before .before .before .before .before .before .before in
+    let s = start f in
     locates-path _ _ _ _ _ _ _ (point-call (s .args .m)) (s .pre .0 .ok) (rw (f .before .before .operation .ensures) at (f .find-path .ensures))
 
 number-requires : tie.Need-number-requires
@@ -42,11 +46,23 @@ returns c =
     let m = n .number .ensures in
     path-refused _ _ _ _ _ _ _ _ _ (placed (n .before)) (omega (arith, c .before .if1 .taken)) (c .ended .ensures .0) (ap (λ r. r .0) (c .ended .ensures .1))
 
+-- what is known where nothing is refused
+known : (c : tie.Else1)
+    → (let f = c .before .before in let a = start f .args in let l = f .find-path .result in
+    PathKnown (a .t) (pointOperation (a .m)) (a .reference .0) (now (a .key)) (now (a .area)) (l .number .0) (l .entry) (l .on) (l .path) (l .masters))
+known c = placed (c .before .before) .known (status-number-one _ Done (sym (c .before .number .ensures) ∙ c .if1 .left))
+
+masters-of-requires : tie.Need-masters-of-requires
+masters-of-requires c κs =
+    let k = known c in
+    let s = start (c .before .before) in
+    rw (k .here) (variable-in _ (record { ok = s .pre .0 .ok; fields = s .pre .0 .fields; size = refl }) (k .behind) (k .among))
+
 carry-out-requires : tie.Need-carry-out-requires
 carry-out-requires c κs =
-    let f = c .before .before .before .before in
-    let k = placed f .known (status-number-one _ Done (sym (c .before .before .before .number .ensures) ∙ c .before .before .if1 .left)) in
-    (c .before .before .before .before .before .before .before .before .before .before .before .before .pre .0, k)
+    let m = c .before .before in
+    let s = start (m .before .before .before) in
+    record { schema = s .args .t; laid = s .pre .0; known = known (m .before); kept = m .masters-of .ensures }
 
 same-length-2 : tie.Need-same-length-2
 same-length-2 c = search needs
@@ -56,8 +72,10 @@ same-length-3 c = search needs
 
 returns-2 : tie.Need-returns-2
 returns-2 c =
-    let f = c .before .before .before .before .before .before .before .before .before in
-    path-carried _ _ _ _ _ _ _ _ _ (placed f) (status-number-one _ Done (sym (c .before .before .before .before .before .before .before .before .number .ensures) ∙ c .before .before .before .before .before .before .before .if1 .left)) (c .before .before .before .before .carry-out .ensures)
+    let g = c .before .before .before .before in
+    let m = g .before .before .before in
+    let n = m .before .before in
+    path-carried _ _ _ _ _ _ _ _ _ (placed (n .before)) (status-number-one _ Done (sym (n .number .ensures) ∙ m .before .if1 .left)) (m .masters-of .ensures) (g .carry-out .ensures)
 
 pub on-points-spec : {M : Type 1} → statement M
 on-points-spec =
@@ -69,6 +87,7 @@ on-points-spec =
     ended-requires
     same-length
     returns
+    masters-of-requires
     carry-out-requires
     same-length-2
     same-length-3
