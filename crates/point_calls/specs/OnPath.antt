@@ -9,6 +9,7 @@ use lib.ListN.{length}
 use Rattle.terms.specs.declared.Status.{Status}
 use Rattle.terms.specs.declared.Status.the-variants.{Done, Fntf, Kind, Ivrp, Mrnf, Damg}
 use Rattle.terms.specs.declared.Status.the-variants as refusals
+use Rattle.terms.specs.Status.{firstOf}
 use Rattle.terms.specs.declared.Operation.{Operation}
 use Rattle.terms.specs.declared.Operation.the-variants.{AddM, Readv, Readr, Addvc, Addvb, Addva}
 use Rattle.terms.specs.declared.RecordNo.{RecordNo}
@@ -100,12 +101,12 @@ pub record OnPath (t : Schema) (c : Call) (n : ℕ) (e : Entry) (j : ℕ) (p : P
 abbrev pub nowhereIn : Status → Entry → Located
 nowhereIn s e = record { status = s; number = record { 0 = 0 }; entry = e; on = 0; path = pathOf e 0; masters = e }
 
--- 6 to 11 by form, on path j of the points e, which are set number i
-abbrev pub takenOn : Schema → Operation → ℕ → Entry → ℕ → ℕ → List ℕ → List ℕ → Located
-takenOn t o i e j r k a =
+-- 6, on path j of the points e, which are set number i
+abbrev pub takenOn : Schema → ℕ → Entry → ℕ → Located
+takenOn t i e j =
     cond (ltb j (e .count))
     (record {
-      status = formStatus o e j (linkOf (pathOf e j)) (mastersOn t e j .key) r k a;
+      status = Done;
       number = record { 0 = i };
       entry = e;
       on = j;
@@ -114,12 +115,24 @@ takenOn t o i e j r k a =
     })
     (nowhereIn refusals.Path e)
 
--- 4 to 11 by form, on set number i, with the path named by w: a number that no set has is refused, with the schema's first set in its place
-abbrev pub locatedAt : Schema → Operation → ℕ → List ℕ → ℕ → List ℕ → List ℕ → Located
-locatedAt t o i w r k a =
+-- 4 to 6, on set number i, with the path named by w: a number that no set has is refused, with the schema's first set in its place
+abbrev pub locatedAt : Schema → ℕ → List ℕ → Located
+locatedAt t i w =
     cond (ltb i (setCount t))
-    (cond (isMaster (entryOf t i)) (nowhereIn Kind (entryOf t i)) (takenOn t o i (entryOf t i) (pathNamed t (entryOf t i) w) r k a))
+    (cond (isMaster (entryOf t i)) (nowhereIn Kind (entryOf t i)) (takenOn t i (entryOf t i) (pathNamed t (entryOf t i) w)))
     (nowhereIn Fntf (entryOf t 0))
+
+-- and 7 to 11 by form there
+abbrev pub formedOn : Operation → Located → ℕ → List ℕ → List ℕ → Located
+formedOn o l r k a =
+    record {
+      status = firstOf (l .status) (formStatus o (l .entry) (l .on) (linkOf (l .path)) (l .masters .key) r k a);
+      number = l .number;
+      entry = l .entry;
+      on = l .on;
+      path = l .path;
+      masters = l .masters;
+    }
 
 -- what every call that asks with these parameters, and names the path by w, has come to
 pub record Locates (t : Schema) (o : Operation) (n w : List ℕ) (r : ℕ) (k a : List ℕ) (l : Located) : Type 0 where

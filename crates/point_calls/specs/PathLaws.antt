@@ -1,5 +1,5 @@
 -- Calls on points, down the ladder to the forms of their parameters: the set, the path, and what is known of both where all is right.
-use Prim.Native.Nat.{ℕ}
+use Prim.Native.Nat.{ℕ, _≤_, _<_}
 use mathlib.Core.Path.{_≡_, refl, sym, _∙_}
 use mathlib.Core.Bool.{Bool, true, false, cond, not, _&&_, _||_}
 use mathlib.Core.List.{List, []}
@@ -26,6 +26,7 @@ use Rattle.schema.specs.Decode.{entryOf, pathOf, setCount, mastersOn}
 use Rattle.schema.specs.Place.{InSet, inSet}
 use Rattle.schema.specs.Guarantee.{SchemaOk}
 use Rattle.records.specs.KindLaws.{behind-masters}
+use Rattle.records.specs.Fields.{Fields}
 use Rattle.records.specs.Areas.{isMaster, areaLength, areaKeyOn}
 use Rattle.masters.specs.FindLaws.{inSet-true}
 use Rattle.calls.specs.SceneLaws.{number-here, edition-here, entry-here, on-here, path-here}
@@ -42,7 +43,7 @@ use Rattle.octets.specs.TestLaws.{asked, either}
 use Rattle.ends.specs.Asks.{Asks, placedStatus}
 use Rattle.records.specs.InBase.{Laid, IsPathUnder, IsPathAmong, MastersOf, PointsIn}
 use Rattle.point_calls.specs.declared.Located.{Located}
-use Rattle.point_calls.specs.OnPath.{PointCall, PathKnown, LocatedIn, OnPath, nowhereIn, locatedAt, Locates}
+use Rattle.point_calls.specs.OnPath.{PointCall, PathKnown, LocatedIn, OnPath, nowhereIn, locatedAt, formedOn, Locates}
 
 -- ---- the eight operations
 
@@ -164,15 +165,17 @@ module _ (t : Schema) (o : Operation) (n w : List ℕ) (r : ℕ) (key area : Lis
       rw (place-points t c o k (h .operation), form-points t c o k (h .operation), h .name, p, h .reference, h .key, h .area)
       (gather (not (ltb i (setCount t))) (isMaster u) (not (ltb j (u .count))) form)
 
-  pub locates-path : {l : Located} → SchemaOk t → l ≡ locatedAt t o (setNamed t n) w r key area → Locates t o n w r key area l
-  locates-path ok h = rw h (go (ltb i (setCount t)) (isMaster u) (ltb j (u .count)) refl refl refl)
+  pub locates-path : {l q : Located} → SchemaOk t → q ≡ locatedAt t (setNamed t n) w → l ≡ formedOn o q r key area → Locates t o n w r key area l
+  locates-path ok g h = rw (h, g) (go (ltb i (setCount t)) (isMaster u) (ltb j (u .count)) refl refl refl)
     where
       go : (f m g : Bool) → ltb i (setCount t) ≡ f → isMaster u ≡ m → ltb j (u .count) ≡ g
           → Locates t o n w r key area
+          (formedOn o
           (cond f
           (cond m (nowhereIn Kind u)
-          (cond g (record { status = form; number = record { 0 = i }; entry = u; on = j; path = pathOf u j; masters = mastersOn t u j }) (nowhereIn refusals.Path u)))
+          (cond g (record { status = Done; number = record { 0 = i }; entry = u; on = j; path = pathOf u j; masters = mastersOn t u j }) (nowhereIn refusals.Path u)))
           (nowhereIn Fntf (entryOf t 0)))
+          r key area)
       go false m g f q s =
           record { status = λ c h p. rw (all-tests c h p, f) refl; on-path = refused-done {u = Fntf} refl (omega arith); known = refused-done {u = Fntf} refl (omega arith) }
       go true true g f q s =
@@ -208,6 +211,34 @@ module _ (t : Schema) (o : Operation) (n w : List ℕ) (r : ℕ) (key area : Lis
               link = link-form o u j (linkOf (pathOf u j)) (mastersOn t u j .key) r key area d;
             };
           }
+
+-- a path that is located has its fields
+module _ (t : Schema) (i : ℕ) (w : List ℕ) {n : ℕ} (laid : Laid t n) where
+  abbrev points : Entry
+  points = entryOf t i
+
+  abbrev number : ℕ
+  number = pathNamed t points w
+
+  abbrev Fielded : Located → Type 0
+  Fielded q = q .status ≡ Done → Fields (q .entry) × (q .on < q .entry .count) × (q .masters .key ≤ 16)
+
+  pub located-fields : {q : Located} → q ≡ locatedAt t i w → Fielded q
+  located-fields h = rw h (go (ltb i (setCount t)) (isMaster points) (ltb number (points .count)) refl refl refl)
+    where
+      go : (f m g : Bool) → ltb i (setCount t) ≡ f → isMaster points ≡ m → ltb number (points .count) ≡ g
+          → Fielded
+          (cond f
+          (cond m (nowhereIn Kind points)
+          (cond g (record { status = Done; number = record { 0 = i }; entry = points; on = number; path = pathOf points number; masters = mastersOn t points number })
+          (nowhereIn refusals.Path points)))
+          (nowhereIn Fntf (entryOf t 0)))
+      go false m g f q s = refused-done {u = Fntf} refl (omega arith)
+      go true true g f q s = refused-done {u = Kind} refl (omega arith)
+      go true false false f q s = refused-done {u = refusals.Path} refl (omega arith)
+      go true false true f q s = λ d.
+          let l = laid .ok .path i number (behind-masters t (laid .ok) i q, ltb-true _ _ f, ltb-true _ _ s) in
+          (laid .fields i (ltb-true _ _ f), (ltb-true _ _ s, laid .ok .master _ (l .master) .key-most))
 
 -- ---- in the base
 

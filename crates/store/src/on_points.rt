@@ -5,6 +5,7 @@ use ends::ended;
 use point_calls::Located;
 use point_calls::paths::find_path;
 use point_calls::paths::masters_of;
+use point_calls::paths::with_forms;
 use point_calls::reads::read_along;
 use point_calls::reads::readd;
 use point_calls::writes::addva;
@@ -61,7 +62,8 @@ pub(crate) fn on_points(
     requires { ⌜ length (now set) ≡ 4 ⌝ }
     ensures { λ a. ⌜ AnswersNamed t (pointOperation m) (now (set .entry)) (now (path .entry)) (reference .0) (now (key .entry)) (now (area .entry)) (now (base .entry)) (a .status) (a .reference .0) (now (area .exit)) (now (base .exit)) ⌝ }
 {
-    let l = find_path(t, m.operation(), set, path, reference, key, area);
+    let found = find_path(t, set, path);
+    let l = with_forms(found, m.operation(), reference, key, area);
     let status = l.status;
     if status.number() != 0 {
         return ended(status, reference);

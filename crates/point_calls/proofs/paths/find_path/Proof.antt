@@ -28,10 +28,10 @@ returns c =
     rw (← c .before .entry-of .ensures, ← b .set-named .ensures, le-ltb _ _ (rw (c .before .before .before .before .sets .ensures) at (c .before .before .if1 .taken))) (c .nowhere .ensures)
 
 -- the number is one of the schema's sets
-within : (d : tie.After-entry-of2) → (let n = d .before .before .before .before in ltb (n .set-named .result .0) (setCount (n .before .before .before .before .before .args .t)) ≡ true)
+within : (d : tie.After-entry-of2) → (let n = d .before .before .before .before in ltb (n .set-named .result .0) (setCount (n .before .before .before .args .t)) ≡ true)
 within d =
     let n = d .before .before .before .before in
-    lt-ltb (n .set-named .result .0) (setCount (n .before .before .before .before .before .args .t)) (omega (arith, d .before .if1 .left, d .before .before .before .sets .ensures))
+    lt-ltb (n .set-named .result .0) (setCount (n .before .before .before .args .t)) (omega (arith, d .before .if1 .left, d .before .before .before .sets .ensures))
 
 entry-of-requires-2 : tie.Need-entry-of-requires-2
 entry-of-requires-2 c κs = search needs
@@ -49,7 +49,7 @@ on-path-requires : tie.Need-on-path-requires
 on-path-requires c κs =
     let d = c .before .before in
     let n = d .before .before .before .before in
-    let s = n .before .before .before .before .before in (
+    let s = n .before .before .before in (
       s .pre .0,
       (
         (
