@@ -53,12 +53,12 @@ module _ (x : Scene) (c : Call) where
 
   -- the adds' keys are the area's, DELVD's are the stored ones
   added-path : oneOf (x .operation) adds ≡ true → (k : ℕ) (more : List Rung)
-      → refusal x c (addedRungs k ++ more) ≡ firstOf (otherMaster (c .base) (x .schema) (x .entry) (x .on) Mrnf (areaKeyOn (x .entry) (c .area)) k) (refusal x c more)
+      → refusal x c (addedRungs k ++ more) ≡ firstOf (otherMaster (c .base) (mastersOn (x .schema) (x .entry)) (x .on) Mrnf (areaKeyOn (x .entry) (c .area)) k) (refusal x c more)
   unfolding refusal
   added-path h k more = rw h (one-path Mrnf (refusal x c more) refl (eqb k (x .on)) (addedOn x c k))
 
   own-path : oneOf (x .operation) (Delvd ∷ []) ≡ true → (k : ℕ) (more : List Rung)
-      → refusal x c (ownRungs k ++ more) ≡ firstOf (otherMaster (c .base) (x .schema) (x .entry) (x .on) Damg (ownKey (c .base) (x .schema) (x .entry) (c .reference)) k) (refusal x c more)
+      → refusal x c (ownRungs k ++ more) ≡ firstOf (otherMaster (c .base) (mastersOn (x .schema) (x .entry)) (x .on) Damg (ownKey (c .base) (x .schema) (x .entry) (c .reference)) k) (refusal x c more)
   unfolding refusal
   own-path h k more = rw h (one-path Damg (refusal x c more) refl (eqb k (x .on)) (ownOn x c k))
 
