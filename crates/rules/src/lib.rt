@@ -60,8 +60,9 @@ fn head(s: &[u8]) -> bool
     requires { ⌜ length (now s) ≡ 512 ⌝ }
     ensures { λ r. ⌜ r ≡ headRule (now (s .entry)) ⌝ }
 {
+    let edition = s[0];
     let m = s[1];
-    (s[0] == 1) & ((1 <= m) & (m <= 4)) & (s[2] <= 4) & zeros(s, 3, 13)
+    (edition == 1) & ((1 <= m) & (m <= 4)) & (s[2] <= 4) & zeros(s, 3, 13)
 }
 
 // "name 0..3 (capital letter, then capitals or digits ..)"
