@@ -68,13 +68,7 @@ pub fn find_set(t: Schema, set: &[u8]) -> Placed
 }
 
 // 7 to 11 by form, where nothing before has refused.
-pub fn with_forms(
-    p: Placed,
-    o: Operation,
-    reference: Reference,
-    key: &[u8],
-    area: &[u8],
-) -> Placed
+pub fn with_forms(p: Placed, o: Operation, reference: Reference, key: &[u8], area: &[u8]) -> Placed
     requires { ⌜ (p .status ≡ Done → Fields (p .entry) × (isMaster (p .entry) ≡ true)) ⌝ }
     ensures { λ q. ⌜ q ≡ formedIn o p (reference .0) (now (key .entry)) (now (area .entry)) ⌝ }
 {

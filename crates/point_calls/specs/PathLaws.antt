@@ -238,7 +238,7 @@ module _ (t : Schema) (i : ℕ) (w : List ℕ) {n : ℕ} (laid : Laid t n) where
       go true false false f q s = refused-done {u = refusals.Path} refl (omega arith)
       go true false true f q s = λ d.
           let l = laid .ok .path i number (behind-masters t (laid .ok) i q, ltb-true _ _ f, ltb-true _ _ s) in
-          (laid .fields i (ltb-true _ _ f), (ltb-true _ _ s, laid .ok .master _ (l .master) .key-most))
+          (laid .fields i (ltb-true _ _ f), ltb-true _ _ s, laid .ok .master _ (l .master) .key-most)
 
 -- ---- in the base
 

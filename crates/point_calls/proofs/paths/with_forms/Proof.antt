@@ -1,7 +1,6 @@
 -- `point_calls::paths::with_forms` meets its contract: what was refused stays so, else the forms decide.
 use mathlib.Core.Path.{refl, sym, _∙_}
 use borrow.Author.Tests.{eq-eqb, ne-eqb}
-use Rattle.octets.specs.TestLaws.{never-both}
 use Rattle.terms.specs.declared.Status.the-variants.{Done}
 use Rattle.terms.specs.Status.{statusNumber}
 use Rattle.terms.specs.Laws.{status-number-one}
@@ -30,7 +29,7 @@ returns-2 : tie.Need-returns-2
 returns-2 c =
     let l = c .before .before .before .before .before .before in
     let b = l .before in
-    rw (← c .form-status .ensures, ← c .before .reference .ensures .0, eq-eqb (statusNumber (b .before .before .before .args .l .status)) 0 (sym (b .number .ensures) ∙ l .if1 .left)) refl
+    rw (← c .before .reference .ensures .0, ← c .form-status .ensures, eq-eqb (statusNumber (b .before .before .before .args .l .status)) 0 (sym (b .number .ensures) ∙ l .if1 .left)) refl
 
 pub with-forms-spec : {M : Type 1} → statement M
 with-forms-spec = tie.close (tie.spec number-requires returns reference-requires form-status-requires returns-2)

@@ -7,29 +7,34 @@ use Rattle.store.specs.Kinds.{pointOperation}
 use Rattle.store.specs.KindsLaws.{point-call}
 use Rattle.records.specs.InBaseLaws.{variable-in}
 use Rattle.point_calls.specs.OnPath.{PathKnown, Locates}
-use Rattle.point_calls.specs.PathLaws.{locates-path}
+use Rattle.point_calls.specs.PathLaws.{locates-path, located-fields}
 use Rattle.store.specs.BehindLaws.{path-refused, path-carried}
 use borrow.Author.Needs.{needs}
 use Rattle.store.proofs.on_points.on_points.Statement.{statement}
 use Rattle.store.proofs.on_points.on_points.Tie as tie
 
+find-path-requires : tie.Need-find-path-requires
+find-path-requires c κs =
+    let p = c .before .before .before .before .before .pre in
+    (record { ok = p .0 .ok; fields = p .0 .fields; size = refl }, p .1)
+
 operation-requires : tie.Need-operation-requires
 operation-requires c κs = search needs
 
-find-path-requires : tie.Need-find-path-requires
-find-path-requires c κs =
-    let p = c .before .before .before .before .before .before .before .pre in
-    (record { ok = p .0 .ok; fields = p .0 .fields; size = refl }, (rw (c .before .operation .ensures) (point-call (c .before .before .before .before .before .before .before .args .m)), p .1))
+with-forms-requires : tie.Need-with-forms-requires
+with-forms-requires c κs =
+    let f = c .before .before in
+    located-fields _ _ _ (f .before .before .before .before .before .before .pre .0) (f .find-path .ensures)
 
-abbrev start : tie.After-find-path → tie.Start
-start f = f .before .before .before .before .before .before .before .before
+abbrev start : tie.After-with-forms → tie.Start
+start f = f .before .before .before .before .before .before .before .before .before
 
 -- what every call that asks so has come to
-placed : (f : tie.After-find-path)
-    → (let a = start f .args in Locates (a .t) (pointOperation (a .m)) (now (a .set)) (now (a .path)) (a .reference .0) (now (a .key)) (now (a .area)) (f .find-path .result))
+placed : (f : tie.After-with-forms)
+    → (let a = start f .args in Locates (a .t) (pointOperation (a .m)) (now (a .set)) (now (a .path)) (a .reference .0) (now (a .key)) (now (a .area)) (f .with-forms .result))
 placed f =
     let s = start f in
-    locates-path _ _ _ _ _ _ _ (point-call (s .args .m)) (s .pre .0 .ok) (rw (f .before .before .operation .ensures) at (f .find-path .ensures))
+    locates-path _ _ _ _ _ _ _ (point-call (s .args .m)) (s .pre .0 .ok) (f .before .before .before .find-path .ensures) (rw (f .before .before .operation .ensures) at (f .with-forms .ensures))
 
 number-requires : tie.Need-number-requires
 number-requires c κs = search needs
@@ -48,7 +53,7 @@ returns c =
 
 -- what is known where nothing is refused
 known : (c : tie.Else1)
-    → (let f = c .before .before in let a = start f .args in let l = f .find-path .result in
+    → (let f = c .before .before in let a = start f .args in let l = f .with-forms .result in
     PathKnown (a .t) (pointOperation (a .m)) (a .reference .0) (now (a .key)) (now (a .area)) (l .number .0) (l .entry) (l .on) (l .path) (l .masters))
 known c = placed (c .before .before) .known (status-number-one _ Done (sym (c .before .number .ensures) ∙ c .if1 .left))
 
@@ -81,8 +86,9 @@ pub on-points-spec : {M : Type 1} → statement M
 on-points-spec =
     tie.close
     (tie.spec
-    operation-requires
     find-path-requires
+    operation-requires
+    with-forms-requires
     number-requires
     ended-requires
     same-length
