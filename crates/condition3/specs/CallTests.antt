@@ -37,7 +37,7 @@ use Rattle.calls.specs.Ladder.Rung.{MasterIntact, MasterThere, MasterNew, Numbe
 use Rattle.calls.specs.OperationLaws.{all-of}
 use Rattle.calls.specs.OutcomeLaws.{rungIn, hasRung, passed}
 use Rattle.calls.specs.LadderLaws.{Passes}
-use Rattle.calls.specs.Reply.{homeOfKey, spotOf}
+use Rattle.calls.specs.Reply.{fullArea, homeOfKey, spotOf}
 use Rattle.kept_state.specs.Tests.{AddMasterTests, DelMasterTests, WriteMasterTests, SpotOk, AddTests, DelTests, WriteTests}
 use Rattle.condition3.specs.Calm.{passes-left, passes-at}
 use Rattle.octets.specs.TestLaws.{asked}
@@ -108,7 +108,7 @@ module _ (t : Schema) (ok : SchemaOk t) (c : Call) where
     unfolding sceneUnder
     not-missing q = asked (oneOf o needers) _ (by MasterThere refl) q
 
-    pub add-master-tests : o ≡ AddM → refuses x c MasterRoom ≡ false → AddMasterTests t (c .base) n (c .key) (c .area)
+    pub add-master-tests : o ≡ AddM → refuses x c MasterRoom ≡ false → AddMasterTests t (c .base) n (c .key) (fullArea x c)
     unfolding sceneUnder
     add-master-tests q h =
         let m = of-masters t ok c p (rw q refl) (rw q refl) in
@@ -118,7 +118,7 @@ module _ (t : Schema) (ok : SchemaOk t) (c : Call) where
           set = m .0;
           area-length = area-right t ok c p (rw q refl);
           no-blank = key-told t ok c p (rw q refl);
-          same-key = same-master-key e j (c .key) (c .area) (m .1) (area-key-same t ok c p (rw q refl));
+          same-key = same-master-key e j (c .key) (fullArea x c) (m .1) (area-key-same t ok c p (rw q refl));
           absent = missing-left (find (c .base) e (c .key)) d a;
           room = rw (home-master (rw q refl)) at (asked (oneOf o (AddM ∷ [])) (addMasterFull (c .base) e (homeOfKey x c)) h (rw q refl));
         }
@@ -136,7 +136,7 @@ module _ (t : Schema) (ok : SchemaOk t) (c : Call) where
           no-points = rw (found-master (rw q refl)) at (asked (oneOf o (DelM ∷ [])) (hasPoints t (c .base) n (recordFound (x .found))) h (rw q refl));
         }
 
-    pub write-master-tests : o ≡ Writm → WriteMasterTests t (c .base) n (c .key) (c .area)
+    pub write-master-tests : o ≡ Writm → WriteMasterTests t (c .base) n (c .key) (fullArea x c)
     write-master-tests q =
         let m = of-masters t ok c p (rw q refl) (rw q refl) in
         record {
@@ -164,7 +164,7 @@ module _ (t : Schema) (ok : SchemaOk t) (c : Call) where
         let m = on-points t ok c p (rw q refl) (rw q refl) in
         record { set = (m .0 .0, m .0 .1); live = referenced (rw q refl) .0 }
 
-    pub write-tests : o ≡ Writv → WriteTests t (c .base) n (c .reference) (c .area)
+    pub write-tests : o ≡ Writv → WriteTests t (c .base) n (c .reference) (fullArea x c)
     unfolding sceneUnder
     write-tests q =
         let m = on-points t ok c p (rw q refl) (rw q refl) in
@@ -172,43 +172,43 @@ module _ (t : Schema) (ok : SchemaOk t) (c : Call) where
           set = (m .0 .0, m .0 .1);
           live = referenced (rw q refl) .0;
           area-length = area-right t ok c p (rw q refl);
-          same-keys = stored-keys (c .base) e (c .reference) (c .area) (asked (oneOf o (Writv ∷ [])) _ (by StoredKeys refl) (rw q refl));
+          same-keys = stored-keys (c .base) e (c .reference) (fullArea x c) (asked (oneOf o (Writv ∷ [])) _ (by StoredKeys refl) (rw q refl));
         }
 
     -- ---- the adds
 
-    same-key : oneOf o adds ≡ true → oneOf o keyRepeaters ≡ true → isMaster e ≡ false → areaKeyOn e (c .area) j ≡ c .key
-    same-key q r m = same-path-key e j (c .key) (c .area) m (area-key-same t ok c p r)
+    same-key : oneOf o adds ≡ true → oneOf o keyRepeaters ≡ true → isMaster e ≡ false → areaKeyOn e (fullArea x c) j ≡ c .key
+    same-key q r m = same-path-key e j (c .key) (fullArea x c) m (area-key-same t ok c p r)
 
-    named-found : areaKeyOn e (c .area) j ≡ c .key → isAt (findOn (c .base) t e j (c .key)) ≡ true → (i : ℕ) → i ≡ j → isAt (findOn (c .base) t e i (areaKeyOn e (c .area) i)) ≡ true
+    named-found : areaKeyOn e (fullArea x c) j ≡ c .key → isAt (findOn (c .base) t e j (c .key)) ≡ true → (i : ℕ) → i ≡ j → isAt (findOn (c .base) t e i (areaKeyOn e (fullArea x c) i)) ≡ true
     named-found k h i s = rw s (ap (λ (z : List ℕ). isAt (findOn (c .base) t e j z)) k ∙ h)
 
-    other-found : (k : ℕ) → k < e .count → k ≢ j → oneOf o adds ≡ true → Passes x c (otherRungs (x .entry .count)) → isAt (findOn (c .base) t e k (areaKeyOn e (c .area) k)) ≡ true
+    other-found : (k : ℕ) → k < e .count → k ≢ j → oneOf o adds ≡ true → Passes x c (otherRungs (x .entry .count)) → isAt (findOn (c .base) t e k (areaKeyOn e (fullArea x c) k)) ≡ true
     unfolding sceneUnder
     other-found k l d q h =
         let u = passes-at x c addedRungs (e .count) k l (passes-left x c (concatBelow addedRungs (e .count)) (concatBelow ownRungs (e .count)) h) in
         let s : not (eqb k j) ≡ true = rw (ne-eqb k j d) refl in
-        let f = findOn (c .base) t e k (areaKeyOn e (c .area) k) in
+        let f = findOn (c .base) t e k (areaKeyOn e (fullArea x c) k) in
         at-left f (asked (not (eqb k j)) (isDamaged f) (asked (oneOf o adds) _ (u .0) q) s) (asked (not (eqb k j)) (isMissing f) (asked (oneOf o adds) _ (u .1 .0) q) s)
 
     abbrev Spots : Operation → Type 0
-    Spots u = o ≡ u → areaKeyOn e (c .area) j ≡ c .key → SpotOk t (c .base) n j (c .area) (spotOf u (c .reference))
+    Spots u = o ≡ u → areaKeyOn e (fullArea x c) j ≡ c .key → SpotOk t (c .base) n j (fullArea x c) (spotOf u (c .reference))
 
-    beside : (u : Operation) → oneOf u numbered ≡ true → o ≡ u → areaKeyOn e (c .area) j ≡ c .key
-        → Live (c .base) e (c .reference) × (keyOn (c .base) e (c .reference) (pathOf e j) ≡ areaKeyOn e (c .area) j)
+    beside : (u : Operation) → oneOf u numbered ≡ true → o ≡ u → areaKeyOn e (fullArea x c) j ≡ c .key
+        → Live (c .base) e (c .reference) × (keyOn (c .base) e (c .reference) (pathOf e j) ≡ areaKeyOn e (fullArea x c) j)
     beside u h q k = let r = referenced (rw q h) in (r .0, r .1 ∙ sym k)
 
     spot-told : (u : Operation) → Spots u
     spot-told u q k = at-spot (oneOf u (Addva ∷ [])) (oneOf u (Addvb ∷ [])) refl refl
       where
         at-spot : (v w : Bool) → oneOf u (Addva ∷ []) ≡ v → oneOf u (Addvb ∷ []) ≡ w
-            → SpotOk t (c .base) n j (c .area) (cond v (After (record { 0 = c .reference })) (cond w (Before (record { 0 = c .reference })) Last))
+            → SpotOk t (c .base) n j (fullArea x c) (cond v (After (record { 0 = c .reference })) (cond w (Before (record { 0 = c .reference })) Last))
         at-spot true w h g = beside u (all-of (λ u. oneOf u (Addva ∷ [])) (λ u. oneOf u numbered) refl u h) q k
         at-spot false true h g = beside u (all-of (λ u. oneOf u (Addvb ∷ [])) (λ u. oneOf u numbered) refl u g) q k
         at-spot false false h g = tt
 
     pub add-tests : (u : Operation) → o ≡ u → oneOf u adds ≡ true → Passes x c (otherRungs (x .entry .count))
-        → refuses x c PointRoom ≡ false → AddTests t (c .base) n j (c .area) (spotOf u (c .reference))
+        → refuses x c PointRoom ≡ false → AddTests t (c .base) n j (fullArea x c) (spotOf u (c .reference))
     unfolding sceneUnder
     add-tests u q a h full =
         let is = some-add u a in
@@ -221,7 +221,7 @@ module _ (t : Schema) (ok : SchemaOk t) (c : Call) where
         record {
           path = m .0;
           area-length = area-right t ok c p (rw q (is .has-area));
-          no-blank = no-blank-keys e (c .area) (m .1) (area-keys-told t ok c p (rw q (is .brings)));
+          no-blank = no-blank-keys e (fullArea x c) (m .1) (area-keys-told t ok c p (rw q (is .brings)));
           found = λ i l. ⊎-elim (λ s. named-found k (point-master v fi mi) i s) (λ d. other-found i l d (rw q a) h) (same? i j);
           spot-ok = spot-told u q k;
           room = asked (oneOf o adds) (isFull (c .base) e) full (rw q a);

@@ -23,6 +23,7 @@ use Rattle.records.specs.Areas.{isMaster, areaLength, areaMasterKey, areaKeyOn}
 use Rattle.masters.specs.FindLaws.{inSet-true}
 use Rattle.calls.specs.Call.{Call, oneOf, masterCalls, variableCalls, wholeCalls}
 use Rattle.calls.specs.Scene.{sceneUnder}
+use Rattle.calls.specs.Reply.{fullArea}
 use Rattle.schema.specs.Naming.{setNamed, pathNamed}
 use Rattle.calls.specs.Ladder.{wrongKind, blankAreaKey, otherAreaKey, Rung, refuses, arealess, keyless, keyBringers, keyRepeaters, numbered}
 use Rattle.calls.specs.Ladder.Rung.{SetName, SetKind, PathName, AreaLength, KeyTold, AreaKeysTold, AreaKeySame, NumberForm}
@@ -99,12 +100,12 @@ module _ (t : Schema) (ok : SchemaOk t) (c : Call) where
     unfolding sceneUnder
     key-told q = unasked (oneOf o keyless) _ (by KeyTold refl) q
 
-    pub area-keys-told : oneOf o keyBringers ≡ true → blankAreaKey e (c .area) ≡ false
+    pub area-keys-told : oneOf o keyBringers ≡ true → blankAreaKey e (fullArea (sceneUnder t c) c) ≡ false
     unfolding sceneUnder
     area-keys-told q = asked (oneOf o keyBringers) _ (by AreaKeysTold refl) q
 
     -- 10
-    pub area-key-same : oneOf o keyRepeaters ≡ true → otherAreaKey e j (c .key) (c .area) ≡ false
+    pub area-key-same : oneOf o keyRepeaters ≡ true → otherAreaKey e j (c .key) (fullArea (sceneUnder t c) c) ≡ false
     unfolding sceneUnder
     area-key-same q = asked (oneOf o keyRepeaters) _ (by AreaKeySame refl) q
 

@@ -35,7 +35,7 @@ use Rattle.calls.specs.OperationLaws.{one-of}
 use Rattle.calls.specs.LadderLaws.{Passes}
 use Rattle.calls.specs.Outcome.{outcome}
 use Rattle.calls.specs.Theorems.{status-of-ladder}
-use Rattle.calls.specs.Reply.{masterIn, homeOfKey, forward, backward, spotOf, storesOf}
+use Rattle.calls.specs.Reply.{fullArea, masterIn, homeOfKey, forward, backward, spotOf, storesOf}
 use Rattle.kept_state.specs.Tests.{AddTests}
 use Rattle.master_steps.specs.FindLaws.{find-quiet, found-live}
 use Rattle.master_steps.specs.QuietLaws.{add-master-quiet, del-master-quiet}
@@ -124,7 +124,7 @@ module _ (c : Call) (rows : ℕ → ℕ → List ℕ → List ℕ) (g : Ready (c
     unfolding sceneUnder
     adds-calm =
         calm-below x c addedRungs (e .count) (λ k l.
-        calm-test (inr (if-asked (oneOf o adds) _ (λ q. if-asked (not (eqb k j)) _ (λ d. path-quiet n k (areaKeyOn e (c .area) k) (add-path q k l))))) (λ d.
+        calm-test (inr (if-asked (oneOf o adds) _ (λ q. if-asked (not (eqb k j)) _ (λ d. path-quiet n k (areaKeyOn e (fullArea x c) k) (add-path q k l))))) (λ d.
         calm-test (mild _ _ (lit< tt)) (λ d. tt)))
       where
         add-path : oneOf o adds ≡ true → (k : ℕ) → k < e .count → IsPathOf t n k
@@ -174,13 +174,13 @@ module _ (c : Call) (rows : ℕ → ℕ → List ℕ → List ℕ) (g : Ready (c
           let k : homeIn e (c .key) ≡ ownHome b e (recordFound (find b e (c .key))) = ap (homeIn e) (sym (a .1)) in
           rw u (rw k (del-master-quiet b e s ms (recordFound (find b e (c .key))) (a .0)))
 
-      add-points : oneOf o adds ≡ true → refuses x c PointRoom ≡ false → AddTests t b n j (c .area) (spotOf o (c .reference))
+      add-points : oneOf o adds ≡ true → refuses x c PointRoom ≡ false → AddTests t b n j (fullArea x c) (spotOf o (c .reference))
       add-points q r = add-tests t (g .world .ok) c p f o refl q h r
 
       adds-quiet : oneOf o adds ≡ true → refuses x c PointRoom ≡ false
-          → addDamaged b (x .schema) (x .entry) (c .area) (spotOf (x .operation) (c .reference)) (x .on) ≡ false
+          → addDamaged b (x .schema) (x .entry) (fullArea x c) (spotOf (x .operation) (c .reference)) (x .on) ≡ false
       unfolding sceneUnder
-      adds-quiet q r = add-quiet t (g .world) b rows (g .stands) n j (c .area) (spotOf o (c .reference)) (add-points q r)
+      adds-quiet q r = add-quiet t (g .world) b rows (g .stands) n j (fullArea x c) (spotOf o (c .reference)) (add-points q r)
 
       delvd-quiet : oneOf o (Delvd ∷ []) ≡ true → delDamaged b (x .schema) (x .entry) (c .reference) ≡ false
       unfolding sceneUnder
@@ -193,11 +193,11 @@ module _ (c : Call) (rows : ℕ → ℕ → List ℕ → List ℕ) (g : Ready (c
         sealed : Storable (checkBy (t .edition)) b (storesOf x c)
         unfolding sceneUnder storesOf blocksSealed
         sealed =
-            row (oneOf o (AddM ∷ [])) (λ q. let u = one-of o AddM q in fits (rw u (add-master-storable t (g .world) b rows (g .stands) n (c .key) (c .area) (add-master-tests t (g .world .ok) c p f u fm))))
+            row (oneOf o (AddM ∷ [])) (λ q. let u = one-of o AddM q in fits (rw u (add-master-storable t (g .world) b rows (g .stands) n (c .key) (fullArea x c) (add-master-tests t (g .world .ok) c p f u fm))))
             (row (oneOf o (DelM ∷ [])) (λ q. let u = one-of o DelM q in fits (rw u (del-master-storable t (g .world) b rows (g .stands) n (c .key) (del-master-tests t (g .world .ok) c p f u im))))
-            (row (oneOf o (Writm ∷ [])) (λ q. let u = one-of o Writm q in fits (rw u (write-master-storable t (g .world) b rows (g .stands) n (c .key) (c .area) (write-master-tests t (g .world .ok) c p f u))))
-            (row (oneOf o (Writv ∷ [])) (λ q. fits (write-storable t (g .world) b rows (g .stands) n (c .reference) (c .area) (write-tests t (g .world .ok) c p f (one-of o Writv q))))
-            (row (oneOf o adds) (λ q. fits (add-storable t (g .world) b rows (g .stands) n j (c .area) (spotOf o (c .reference)) (add-points q fa)))
+            (row (oneOf o (Writm ∷ [])) (λ q. let u = one-of o Writm q in fits (rw u (write-master-storable t (g .world) b rows (g .stands) n (c .key) (fullArea x c) (write-master-tests t (g .world .ok) c p f u))))
+            (row (oneOf o (Writv ∷ [])) (λ q. fits (write-storable t (g .world) b rows (g .stands) n (c .reference) (fullArea x c) (write-tests t (g .world .ok) c p f (one-of o Writv q))))
+            (row (oneOf o adds) (λ q. fits (add-storable t (g .world) b rows (g .stands) n j (fullArea x c) (spotOf o (c .reference)) (add-points q fa)))
             (row (oneOf o (Delvd ∷ [])) (λ q. fits (del-storable t (g .world) b rows (g .stands) n (c .reference) (del-tests t (g .world .ok) c p f (one-of o Delvd q)))) (fits refl))))))
 
       calm-final : Calm x c finalRungs

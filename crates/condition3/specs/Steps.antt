@@ -26,7 +26,7 @@ use Rattle.calls.specs.Ladder.Rung.{NoPoints, MasterRoom, PointRoom}
 use Rattle.calls.specs.LadderLaws.{Passes}
 use Rattle.calls.specs.OperationLaws.{everyOperation, none-of, by-operation}
 use Rattle.calls.specs.OutcomeLaws.{rungIn, hasRung, passed}
-use Rattle.calls.specs.Reply.{spotOf, referenceBy, referenceAfter, storesBy, storesOf, baseAfter}
+use Rattle.calls.specs.Reply.{fullArea, spotOf, referenceBy, referenceAfter, storesBy, storesOf, baseAfter}
 use Rattle.calls.specs.Outcome.{done, outcome}
 use Rattle.calls.specs.Theorems.{refused-changes-nothing}
 use Rattle.kept_state.specs.Tests.{AddTests}
@@ -83,7 +83,7 @@ module _ (c : Call) (rows : AllRows) (g : Ready (c .schema) (c .base) rows) wher
     by : (r : Rung) → hasRung r finalRungs ≡ true → refuses x c (rungIn r finalRungs) ≡ false
     by r i = passed x c finalRungs r i z
 
-    add-by : (u : Operation) → o ≡ u → oneOf u adds ≡ true → AddTests t b n j (c .area) (spotOf u (c .reference))
+    add-by : (u : Operation) → o ≡ u → oneOf u adds ≡ true → AddTests t b n j (fullArea x c) (spotOf u (c .reference))
     add-by u q a = add-tests t (g .world .ok) c p f u q a h (by PointRoom refl)
 
     -- what a call of this operation does to data base and lists
@@ -100,7 +100,7 @@ module _ (c : Call) (rows : AllRows) (g : Ready (c .schema) (c .base) rows) wher
     unfolding sceneUnder
     addm q =
         let s = add-master-tests t (g .world .ok) c p f q (by MasterRoom refl) in
-        rw q (master-turned _ (s .set) (add-master-step t (g .world) b rows (g .stands) n (c .key) (c .area) s))
+        rw q (master-turned _ (s .set) (add-master-step t (g .world) b rows (g .stands) n (c .key) (fullArea x c) s))
 
     delm : Turns DelM
     unfolding sceneUnder
@@ -112,7 +112,7 @@ module _ (c : Call) (rows : AllRows) (g : Ready (c .schema) (c .base) rows) wher
     unfolding sceneUnder
     writm q =
         let s = write-master-tests t (g .world .ok) c p f q in
-        rw q (master-turned _ (s .set) (write-master-step t (g .world) b rows (g .stands) n (c .key) (c .area) s))
+        rw q (master-turned _ (s .set) (write-master-step t (g .world) b rows (g .stands) n (c .key) (fullArea x c) s))
 
     writv : Turns Writv
     unfolding sceneUnder
