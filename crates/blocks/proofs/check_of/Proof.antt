@@ -13,11 +13,8 @@ use Rattle.blocks.proofs.check_of.Tie as tie
 one-kind : (k : Check) (block : List ℕ) (n : ℕ) → checkOf Sum block n ≡ checkOf k block n
 one-kind Sum block n = refl
 
-sum-requires : tie.Need-sum-requires
-sum-requires c κs = search needs
-
 returns : tie.Need-returns
 returns c = c .sum .ensures ∙ one-kind _ _ _
 
 pub check-of-spec : {M : Type 1} → statement M
-check-of-spec = tie.close (tie.spec sum-requires returns)
+check-of-spec = tie.close (tie.spec (λ c κs. search needs) returns)

@@ -7,17 +7,8 @@ use borrow.Author.Needs.{needs}
 use Rattle.blocks.proofs.seal.Statement.{statement}
 use Rattle.blocks.proofs.seal.Tie as tie
 
-block-requires : tie.Need-block-requires
-block-requires c κs = search needs
-
 check-of-requires : tie.Need-check-of-requires
 check-of-requires c κs = ap length (c .block .ensures) ∙ length-run _ _ 512 (c .before .before .before .pre)
-
-put-check-requires : tie.Need-put-check-requires
-put-check-requires c κs = search needs
-
-same-length : tie.Need-same-length
-same-length c = search needs
 
 returns : tie.Need-returns
 unfolding seal
@@ -27,4 +18,4 @@ returns c =
 
 pub seal-spec : {M : Type 1} → statement M
 seal-spec =
-    tie.close (tie.spec block-requires check-of-requires put-check-requires same-length returns)
+    tie.close (tie.spec (λ c κs. search needs) check-of-requires (λ c κs. search needs) (λ c. search needs) returns)

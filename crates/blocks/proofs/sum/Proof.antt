@@ -13,12 +13,9 @@ slice-aggregate-word-sum c =
     let s = c .before .before in
     sym (length-take-le _ (now (s .args .block)) (omega arith))
 
-word-sum-requires : tie.Need-word-sum-requires
-word-sum-requires c κs = search needs
-
 returns : tie.Need-returns
 unfolding checkOf
 returns c = c .word-sum .ensures
 
 pub sum-spec : {M : Type 1} → statement M
-sum-spec = tie.close (tie.spec slice-aggregate-word-sum word-sum-requires returns)
+sum-spec = tie.close (tie.spec slice-aggregate-word-sum (λ c κs. search needs) returns)

@@ -25,15 +25,6 @@ abbrev μ-loop : tie.MeasureT-loop
 whole : (s : tie.Start Inv-loop μ-loop) → length (s .args .t2 .numbers) ≡ 12
 whole s = sym (length-map (s .args .t2 .numbers) _) ∙ s .good .1 .0 .1 .1 .0 .1 .0 .1
 
-loop-holds : tie.Need-loop-holds Inv-loop μ-loop
-loop-holds c = search needs
-
-mul-n : tie.Need-mul-n Inv-loop μ-loop
-mul-n c = search needs
-
-element-copy-out-n : tie.Need-element-copy-out-n Inv-loop μ-loop
-element-copy-out-n c = search needs
-
 sealed-requires : tie.Need-sealed-requires Inv-loop μ-loop
 sealed-requires c κs =
     let l = c .before .before in
@@ -49,12 +40,6 @@ returns c =
     let f : allSealed (a .kind) (now (a .base)) (drop (l .loop .j) (numbersOf (a .t2))) ≡ false =
     blocks-fail (a .t2) (whole s) (omega arith) (isSealed (a .kind) (now (a .base))) (l .loop .j) (omega arith) (sym (k .sealed .ensures) ∙ not-true (k .sealed .result) (c .if1 .taken)) in
     sym f ∙ l .loop .inv .1
-
-add-j : tie.Need-add-j Inv-loop μ-loop
-add-j c = search needs
-
-loop-less : tie.Need-loop-less Inv-loop μ-loop
-loop-less c = search needs
 
 loop-again : tie.Need-loop-again Inv-loop μ-loop
 loop-again c =
@@ -78,12 +63,12 @@ all-sealed-spec =
     (tie.spec
     Inv-loop
     μ-loop
-    loop-holds
-    mul-n
-    element-copy-out-n
+    (λ c. search needs)
+    (λ c. search needs)
+    (λ c. search needs)
     sealed-requires
     returns
-    add-j
-    loop-less
+    (λ c. search needs)
+    (λ c. search needs)
     loop-again
     returns-2)

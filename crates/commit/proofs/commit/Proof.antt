@@ -31,26 +31,14 @@ whether t =
     let a = s .args in
     touched-sealed (now (a .base)) (a .e) (now (a .area)) (a .p) (s .pre .0) (s .pre .1 .1 .0) (numbersOf (t .touched .result)) (t .touched .ensures .0) (kindIn t)
 
-of-requires : tie.Need-of-requires
-of-requires c κs = search needs
-
-touched-requires : tie.Need-touched-requires
-touched-requires c κs = search needs
-
 all-sealed-requires : tie.Need-all-sealed-requires
 all-sealed-requires c κs = let t = c .before in (t .touched .ensures .1, inside t)
-
-store-requires : tie.Need-store-requires
-store-requires c κs = search needs
 
 seal-all-requires : tie.Need-seal-all-requires
 seal-all-requires c κs =
     let d = c .before .before .before in
     let t = d .before .before .before .before .before in
     (t .touched .ensures .1, rw (d .store .kept .0) (inside t))
-
-same-length : tie.Need-same-length
-same-length c = search needs
 
 returns : tie.Need-returns
 returns c =
@@ -66,9 +54,6 @@ returns c =
     (commit-done (now (a .base)) (k .all-sealed .ensures ∙ whether t) (o .if1 .taken)
     (touched-committed (now (a .base)) (a .e) (now (a .area)) (a .p) (s .pre .0) (s .pre .1 .1 .0) (numbersOf (t .touched .result)) (t .touched .ensures .0) (kindIn t) (d .store .last .0) (l .seal-all .last .0) (λ i. n .slice-known2 .given i .fits) (d .store .ensures) (l .seal-all .ensures)))
 
-same-length-2 : tie.Need-same-length-2
-same-length-2 c = search needs
-
 returns-2 : tie.Need-returns-2
 returns-2 c =
     let k = c .before in
@@ -79,12 +64,12 @@ pub commit-spec : {M : Type 1} → statement M
 commit-spec =
     tie.close
     (tie.spec
-    of-requires
-    touched-requires
+    (λ c κs. search needs)
+    (λ c κs. search needs)
     all-sealed-requires
-    store-requires
+    (λ c κs. search needs)
     seal-all-requires
-    same-length
+    (λ c. search needs)
     returns
-    same-length-2
+    (λ c. search needs)
     returns-2)

@@ -27,12 +27,6 @@ seal-zeros-requires c κs =
     let l = c .before .before in
     (omega (arith, length-zeros (s .args .base .now) (s .args .blocks * 512) (s .pre)), still-zero Sum _ _ (s .args .blocks) (l .loop .i) (s .pre) (l .loop .inv .1 Sum) (omega (arith, c .before .loop-test .taken)))
 
-add-i : tie.Need-add-i Inv-loop μ-loop
-add-i c = search needs
-
-loop-less : tie.Need-loop-less Inv-loop μ-loop
-loop-less c = search needs
-
 loop-again : tie.Need-loop-again Inv-loop μ-loop
 loop-again c =
     let l = c .before .before .before .before .before in
@@ -54,8 +48,8 @@ set-checks-spec =
     μ-loop
     loop-holds
     seal-zeros-requires
-    add-i
-    loop-less
+    (λ c. search needs)
+    (λ c. search needs)
     loop-again
     same-length
     returns)

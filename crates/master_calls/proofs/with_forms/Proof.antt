@@ -9,9 +9,6 @@ use borrow.Author.Needs.{needs}
 use Rattle.master_calls.proofs.with_forms.Statement.{statement}
 use Rattle.master_calls.proofs.with_forms.Tie as tie
 
-number-requires : tie.Need-number-requires
-number-requires c κs = search needs
-
 returns : tie.Need-returns
 returns c =
     let n = c .before .number .ensures in
@@ -29,4 +26,4 @@ returns-2 c =
     rw (← c .form-status .ensures, eq-eqb (statusNumber (b .before .before .before .args .p .status)) 0 (sym (b .number .ensures) ∙ c .before .before .before .if1 .left)) refl
 
 pub with-forms-spec : {M : Type 1} → statement M
-with-forms-spec = tie.close (tie.spec number-requires returns form-status-requires returns-2)
+with-forms-spec = tie.close (tie.spec (λ c κs. search needs) returns form-status-requires returns-2)

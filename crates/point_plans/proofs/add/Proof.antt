@@ -63,9 +63,6 @@ known n z =
     known-of (now (a .base)) (a .e) (a .masters) (a .named .on) Mrnf _ (areaKeyOn (a .e) (now (a .area))) _ (a .named .master) (s .pre .0) (keys (o .before)) refl (sym (others o) ∙ done n z)
     (s .pre .1 .1 .1 .1) (o .all-owners .ensures .1 .0 (done n z))
 
-area-places-requires : tie.Need-area-places-requires
-area-places-requires c κs = search needs
-
 all-owners-requires : tie.Need-all-owners-requires
 all-owners-requires c κs =
     let s = start c in
@@ -76,12 +73,6 @@ all-owners-requires c κs =
         ap (find (now (a .base)) (mastersKept (a .masters) (a .named .on))) (keys c (a .named .on) (s .pre .1 .1 .1 .0)) ∙ s .pre .1 .1 .1 .1,
       ),
     )
-
-number-requires : tie.Need-number-requires
-number-requires c κs = search needs
-
-refused-requires : tie.Need-refused-requires
-refused-requires c κs = search needs
 
 returns : tie.Need-returns
 returns c =
@@ -126,10 +117,10 @@ pub add-spec : {M : Type 1} → statement M
 add-spec =
     tie.close
     (tie.spec
-    area-places-requires
+    (λ c κs. search needs)
     all-owners-requires
-    number-requires
-    refused-requires
+    (λ c κs. search needs)
+    (λ c κs. search needs)
     returns
     add-known-requires
     returns-2)

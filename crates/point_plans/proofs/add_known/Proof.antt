@@ -49,32 +49,11 @@ asked d =
     let a = start (placed d) .args in
     sym (d .any-damaged .ensures ∙ damaged-taken (now (a .base)) (a .e) (now (a .area)) (a .at) (a .owners) _ ∙ ap (damaged (now (a .base)) (a .e) (now (a .area)) (a .at) (a .owners)) ((placed d) .before .new-links .ensures .0))
 
-new-links-requires : tie.Need-new-links-requires
-new-links-requires c κs = search needs
-
-mul-new-place : tie.Need-mul-new-place
-mul-new-place c = search needs
-
-element-copy-out-new-place : tie.Need-element-copy-out-new-place
-element-copy-out-new-place c = search needs
-
-new-place-requires : tie.Need-new-place-requires
-new-place-requires c κs = search needs
-
-refused-requires : tie.Need-refused-requires
-refused-requires c κs = search needs
-
 returns : tie.Need-returns
 returns c =
     let d = c .before .before .before in
     let f = refused-status (c .refused .ensures) in
     (rw (full d ∙ lt-ltb _ _ (c .before .if1 .taken)) f, (refused-done f (omega arith), refused-none (c .refused .ensures)))
-
-any-damaged-requires : tie.Need-any-damaged-requires
-any-damaged-requires c κs = search needs
-
-refused-requires-2 : tie.Need-refused-requires-2
-refused-requires-2 c κs = search needs
 
 returns-2 : tie.Need-returns-2
 returns-2 c =
@@ -99,14 +78,14 @@ pub add-known-spec : {M : Type 1} → statement M
 add-known-spec =
     tie.close
     (tie.spec
-    new-links-requires
-    mul-new-place
-    element-copy-out-new-place
-    new-place-requires
-    refused-requires
+    (λ c κs. search needs)
+    (λ c. search needs)
+    (λ c. search needs)
+    (λ c κs. search needs)
+    (λ c κs. search needs)
     returns
-    any-damaged-requires
-    refused-requires-2
+    (λ c κs. search needs)
+    (λ c κs. search needs)
     returns-2
     linked-plan-requires
     returns-3)

@@ -96,12 +96,6 @@ known n z =
     known-of (now (a .base)) (a .e) (a .masters) (a .named .on) Damg _ (own s) _ (a .named .master) (s .pre .0) (keys (o .before)) refl (sym (others o) ∙ done n z)
     (s .pre .1 .1 .1) (o .all-owners .ensures .1 .0 (done n z))
 
-record-of-requires : tie.Need-record-of-requires
-record-of-requires c κs = search needs
-
-record-places-requires : tie.Need-record-places-requires
-record-places-requires c κs = search needs
-
 all-owners-requires : tie.Need-all-owners-requires
 all-owners-requires c κs =
     let s = start c in
@@ -112,12 +106,6 @@ all-owners-requires c κs =
         ap (find (now (a .base)) (mastersKept (a .masters) (a .named .on))) (keys c (a .named .on) (s .pre .1 .1 .0)) ∙ s .pre .1 .1 .1,
       ),
     )
-
-number-requires : tie.Need-number-requires
-number-requires c κs = search needs
-
-refused-requires : tie.Need-refused-requires
-refused-requires c κs = search needs
 
 returns : tie.Need-returns
 returns c =
@@ -163,11 +151,11 @@ pub delete-spec : {M : Type 1} → statement M
 delete-spec =
     tie.close
     (tie.spec
-    record-of-requires
-    record-places-requires
+    (λ c κs. search needs)
+    (λ c κs. search needs)
     all-owners-requires
-    number-requires
-    refused-requires
+    (λ c κs. search needs)
+    (λ c κs. search needs)
     returns
     delete-known-requires
     returns-2)

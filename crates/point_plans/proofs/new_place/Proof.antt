@@ -4,12 +4,9 @@ use Rattle.points.specs.Points.{newPlace}
 use Rattle.point_plans.proofs.new_place.Statement.{statement}
 use Rattle.point_plans.proofs.new_place.Tie as tie
 
-lowest-free-requires : tie.Need-lowest-free-requires
-lowest-free-requires c κs = search needs
-
 returns : tie.Need-returns
 unfolding newPlace
 returns c = c .lowest-free .ensures
 
 pub new-place-spec : {M : Type 1} → statement M
-new-place-spec = tie.close (tie.spec lowest-free-requires returns)
+new-place-spec = tie.close (tie.spec (λ c κs. search needs) returns)

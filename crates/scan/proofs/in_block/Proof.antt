@@ -48,14 +48,8 @@ returns c =
     let a = l .before .args in
     sym (lowestFrom-hit (wantedIn (a .live) (now (a .records)) (a .size)) (a .n - l .loop .i) (a .n - (l .loop .i + 1)) (l .loop .i) (omega arith) (test l true (c .if1 .taken))) ∙ l .loop .inv .2
 
-add-i : tie.Need-add-i Inv-loop μ-loop
-add-i c = search needs
-
 add-p : tie.Need-add-p Inv-loop μ-loop
 add-p c = omega (arith, within (c .before .before))
-
-loop-less : tie.Need-loop-less Inv-loop μ-loop
-loop-less c = search needs
 
 loop-again : tie.Need-loop-again Inv-loop μ-loop
 loop-again c =
@@ -82,8 +76,8 @@ in-block-spec =
     loop-holds
     shared-slice-read-state
     returns
-    add-i
+    (λ c. search needs)
     add-p
-    loop-less
+    (λ c. search needs)
     loop-again
     returns-2)

@@ -5,12 +5,9 @@ use Rattle.scan.specs.Scan.{lowestFree}
 use Rattle.scan.proofs.lowest_free.Statement.{statement}
 use Rattle.scan.proofs.lowest_free.Tie as tie
 
-scan-requires : tie.Need-scan-requires
-scan-requires c κs = search needs
-
 returns : tie.Need-returns
 unfolding lowestFree
 returns c = rw (sub-zero (c .before .before .args .e .records)) at (c .scan .ensures)
 
 pub lowest-free-spec : {M : Type 1} → statement M
-lowest-free-spec = tie.close (tie.spec scan-requires returns)
+lowest-free-spec = tie.close (tie.spec (λ c κs. search needs) returns)

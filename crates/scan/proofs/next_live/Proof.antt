@@ -9,19 +9,10 @@ use Rattle.records.specs.Records.{isLive}
 use Rattle.scan.proofs.next_live.Statement.{statement}
 use Rattle.scan.proofs.next_live.Tie as tie
 
-add-result : tie.Need-add-result
-add-result c = search needs
-
 returns : tie.Need-returns
 returns c =
     let a = c .before .before .before .args in
     sym (lowestFrom-end (isLive (now (a .base)) (a .e)) (a .e .records - a .from) (a .from + 1) (omega arith))
 
-scan-requires : tie.Need-scan-requires
-scan-requires c κs = search needs
-
-returns-2 : tie.Need-returns-2
-returns-2 c = search needs
-
 pub next-live-spec : {M : Type 1} → statement M
-next-live-spec = tie.close (tie.spec add-result returns scan-requires returns-2)
+next-live-spec = tie.close (tie.spec (λ c. search needs) returns (λ c κs. search needs) (λ c. search needs))

@@ -39,15 +39,6 @@ ends : (c : tie.Then1 Inv-loop μ-loop)
     → c .before .before .loop .s .at + c .before .before .loop .s .count * start (c .before .before) .args .e .size ≤ length (now (start (c .before .before) .args .base))
 ends c = stretch-inside (c .before .before .loop .passed) (c .before .before .loop .s) (start (c .before .before) .pre .0) (c .if1 .taken) (enters c)
 
-cast-size : tie.Need-cast-size Inv-loop μ-loop
-cast-size c = search needs
-
-add-t10 : tie.Need-add-t10 Inv-loop μ-loop
-add-t10 c = search needs
-
-stretch-from-requires : tie.Need-stretch-from-requires Inv-loop μ-loop
-stretch-from-requires c κs = search needs
-
 loop-holds : tie.Need-loop-holds Inv-loop μ-loop
 loop-holds c = (search needs, λ h. c .stretch-from .ensures, refl)
 
@@ -60,9 +51,6 @@ in-block-requires c κs =
     let l = k .before .before in
     let a = start l .args in
     (rw (c .records-of .ensures, length-run (now (a .base)) (l .loop .s .at) (l .loop .s .count * a .e .size) (ends k)) (omega arith), start l .pre .1 .0)
-
-add-result : tie.Need-add-result Inv-loop μ-loop
-add-result c = search needs
 
 add-result-2 : tie.Need-add-result-2 Inv-loop μ-loop
 add-result-2 c = omega (arith, few (c .before .before .before), start (c .before .before .before .before .before) .pre .0 .many)
@@ -99,9 +87,6 @@ loop-again c =
           ∙ l .loop .inv .2,
     )
 
-add-result-3 : tie.Need-add-result-3 Inv-loop μ-loop
-add-result-3 c = search needs
-
 returns-2 : tie.Need-returns-2 Inv-loop μ-loop
 returns-2 c =
     let l = c .before .before .before in
@@ -117,18 +102,18 @@ scan-spec =
     (tie.spec
     Inv-loop
     μ-loop
-    cast-size
-    add-t10
-    stretch-from-requires
+    (λ c. search needs)
+    (λ c. search needs)
+    (λ c κs. search needs)
     loop-holds
     records-of-requires
     in-block-requires
-    add-result
+    (λ c. search needs)
     add-result-2
     returns
     add-passed
     next-stretch-requires
     loop-less
     loop-again
-    add-result-3
+    (λ c. search needs)
     returns-2)

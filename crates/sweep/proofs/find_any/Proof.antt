@@ -9,15 +9,6 @@ use borrow.Author.Needs.{needs}
 use Rattle.sweep.proofs.find_any.Statement.{statement}
 use Rattle.sweep.proofs.find_any.Tie as tie
 
-set-named-requires : tie.Need-set-named-requires
-set-named-requires c κs = search needs
-
-sets-requires : tie.Need-sets-requires
-sets-requires c κs = search needs
-
-entry-of-requires : tie.Need-entry-of-requires
-entry-of-requires c κs = search needs
-
 returns : tie.Need-returns
 returns c =
     let b = c .before .before .before .before in
@@ -29,9 +20,6 @@ within d =
     let b = d .before .before .before .before in
     lt-ltb (b .set-named .result .0) (setCount (b .before .before .args .t)) (omega (arith, d .before .if1 .left, d .before .before .before .sets .ensures))
 
-entry-of-requires-2 : tie.Need-entry-of-requires-2
-entry-of-requires-2 c κs = search needs
-
 returns-2 : tie.Need-returns-2
 returns-2 c =
     let b = c .before .before .before .before in
@@ -41,9 +29,9 @@ pub find-any-spec : {M : Type 1} → statement M
 find-any-spec =
     tie.close
     (tie.spec
-    set-named-requires
-    sets-requires
-    entry-of-requires
+    (λ c κs. search needs)
+    (λ c κs. search needs)
+    (λ c κs. search needs)
     returns
-    entry-of-requires-2
+    (λ c κs. search needs)
     returns-2)

@@ -10,48 +10,6 @@ use borrow.Author.Needs.{needs}
 use Rattle.console.proofs.small.schema.Statement.{statement}
 use Rattle.console.proofs.small.schema.Tie as tie
 
-slice-aggregate-copy-in : tie.Need-slice-aggregate-copy-in
-slice-aggregate-copy-in c = search needs
-
-slice-aggregate-copy-in-2 : tie.Need-slice-aggregate-copy-in-2
-slice-aggregate-copy-in-2 c = search needs
-
-copy-in-requires : tie.Need-copy-in-requires
-copy-in-requires c κs = search needs
-
-slice-aggregate-copy-in-3 : tie.Need-slice-aggregate-copy-in-3
-slice-aggregate-copy-in-3 c = search needs
-
-slice-aggregate-copy-in-4 : tie.Need-slice-aggregate-copy-in-4
-slice-aggregate-copy-in-4 c = search needs
-
-copy-in-requires-2 : tie.Need-copy-in-requires-2
-copy-in-requires-2 c κs = search needs
-
-slice-aggregate-copy-in-5 : tie.Need-slice-aggregate-copy-in-5
-slice-aggregate-copy-in-5 c = search needs
-
-slice-aggregate-copy-in-6 : tie.Need-slice-aggregate-copy-in-6
-slice-aggregate-copy-in-6 c = search needs
-
-copy-in-requires-3 : tie.Need-copy-in-requires-3
-copy-in-requires-3 c κs = search needs
-
-slice-aggregate-copy-in-7 : tie.Need-slice-aggregate-copy-in-7
-slice-aggregate-copy-in-7 c = search needs
-
-slice-aggregate-copy-in-8 : tie.Need-slice-aggregate-copy-in-8
-slice-aggregate-copy-in-8 c = search needs
-
-copy-in-requires-4 : tie.Need-copy-in-requires-4
-copy-in-requires-4 c κs = search needs
-
-slice-aggregate-seal : tie.Need-slice-aggregate-seal
-slice-aggregate-seal c = search needs
-
-seal-requires : tie.Need-seal-requires
-seal-requires c κs = search needs
-
 returns : tie.Need-returns
 unfolding smallSchema
 returns c =
@@ -67,18 +25,18 @@ pub schema-spec : {M : Type 1} → statement M
 schema-spec =
     tie.close
     (tie.spec
-    slice-aggregate-copy-in
-    slice-aggregate-copy-in-2
-    copy-in-requires
-    slice-aggregate-copy-in-3
-    slice-aggregate-copy-in-4
-    copy-in-requires-2
-    slice-aggregate-copy-in-5
-    slice-aggregate-copy-in-6
-    copy-in-requires-3
-    slice-aggregate-copy-in-7
-    slice-aggregate-copy-in-8
-    copy-in-requires-4
-    slice-aggregate-seal
-    seal-requires
+    (λ c. search needs)
+    (λ c. search needs)
+    (λ c κs. search needs)
+    (λ c. search needs)
+    (λ c. search needs)
+    (λ c κs. search needs)
+    (λ c. search needs)
+    (λ c. search needs)
+    (λ c κs. search needs)
+    (λ c. search needs)
+    (λ c. search needs)
+    (λ c κs. search needs)
+    (λ c. search needs)
+    (λ c κs. search needs)
     returns)

@@ -18,31 +18,13 @@ Inv-loop t e count all₀ k₀ all k = (k ≤ count) × (count ≡ e .count) × 
 abbrev μ-loop : tie.MeasureT-loop
 μ-loop t e count all₀ k₀ all k = count - k
 
-cast-count : tie.Need-cast-count Inv-loop μ-loop
-cast-count c = search needs
-
 loop-holds : tie.Need-loop-holds Inv-loop μ-loop
 loop-holds c = (omega arith, refl, c .before .pre .points .few, refl, refl)
-
-path-of-requires : tie.Need-path-of-requires Inv-loop μ-loop
-path-of-requires c κs = search needs
 
 entry-of-requires : tie.Need-entry-of-requires Inv-loop μ-loop
 entry-of-requires c κs =
     let l = c .before .before in
     rw (c .path-of .ensures) (omega (arith, l .before .before .pre .number (l .loop .k) (c .before .loop-test .taken)))
-
-mul-all : tie.Need-mul-all Inv-loop μ-loop
-mul-all c = search needs
-
-array-set-from-all : tie.Need-array-set-from-all Inv-loop μ-loop
-array-set-from-all c = search needs
-
-add-k : tie.Need-add-k Inv-loop μ-loop
-add-k c = search needs
-
-loop-less : tie.Need-loop-less Inv-loop μ-loop
-loop-less c = search needs
 
 loop-again : tie.Need-loop-again Inv-loop μ-loop
 loop-again c =
@@ -70,13 +52,13 @@ masters-of-spec =
     (tie.spec
     Inv-loop
     μ-loop
-    cast-count
+    (λ c. search needs)
     loop-holds
-    path-of-requires
+    (λ c κs. search needs)
     entry-of-requires
-    mul-all
-    array-set-from-all
-    add-k
-    loop-less
+    (λ c. search needs)
+    (λ c. search needs)
+    (λ c. search needs)
+    (λ c. search needs)
     loop-again
     returns)

@@ -11,12 +11,6 @@ path-named-requires c κs =
     let s = c .before in
     rw (s .pre .1 .1) (leads-to-masters _ (s .pre .0 .ok) _ (s .pre .1 .0 .1))
 
-cast-paths : tie.Need-cast-paths
-cast-paths c = search needs
-
-nowhere-requires : tie.Need-nowhere-requires
-nowhere-requires c κs = search needs
-
 returns : tie.Need-returns
 returns c =
     let b = c .before .before .before in
@@ -42,8 +36,8 @@ on-path-spec =
     tie.close
     (tie.spec
     path-named-requires
-    cast-paths
-    nowhere-requires
+    (λ c. search needs)
+    (λ c κs. search needs)
     returns
     path-of-requires
     entry-of-requires

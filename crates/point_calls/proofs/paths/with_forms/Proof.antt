@@ -8,16 +8,10 @@ use borrow.Author.Needs.{needs}
 use Rattle.point_calls.proofs.paths.with_forms.Statement.{statement}
 use Rattle.point_calls.proofs.paths.with_forms.Tie as tie
 
-number-requires : tie.Need-number-requires
-number-requires c κs = search needs
-
 returns : tie.Need-returns
 returns c =
     let n = c .before .number .ensures in
     rw (ne-eqb (statusNumber (c .before .before .before .before .args .l .status)) 0 (λ z. c .if1 .taken (n ∙ z))) refl
-
-reference-requires : tie.Need-reference-requires
-reference-requires c κs = search needs
 
 form-status-requires : tie.Need-form-status-requires
 form-status-requires c κs =
@@ -32,4 +26,4 @@ returns-2 c =
     rw (← c .before .reference .ensures .0, ← c .form-status .ensures, eq-eqb (statusNumber (b .before .before .before .args .l .status)) 0 (sym (b .number .ensures) ∙ l .if1 .left)) refl
 
 pub with-forms-spec : {M : Type 1} → statement M
-with-forms-spec = tie.close (tie.spec number-requires returns reference-requires form-status-requires returns-2)
+with-forms-spec = tie.close (tie.spec (λ c κs. search needs) returns (λ c κs. search needs) form-status-requires returns-2)

@@ -14,19 +14,10 @@ of-requires c κs =
     let s = c .before .before .before in
     omega (arith, s .pre .1 .0, reached (s .pre .0) .masters .ok .key-most)
 
-is-link-requires : tie.Need-is-link-requires
-is-link-requires c κs = search needs
-
 seek-requires : tie.Need-seek-requires
 seek-requires c κs =
     let s = c .before .before .before .before .before in
     (reached (s .pre .0), (c .before .of .ensures .1 ∙ s .pre .1 .0, λ h. not-linked (s .args .l .entry) _ _ (c .is-link .ensures) (s .pre .1 .1 .1) (not-true _ h)))
-
-number-requires : tie.Need-number-requires
-number-requires c κs = search needs
-
-ended-requires : tie.Need-ended-requires
-ended-requires c κs = search needs
 
 returns : tie.Need-returns
 returns c =
@@ -53,9 +44,6 @@ read-from-requires c κs =
       ),
     )
 
-same-length : tie.Need-same-length
-same-length c = search needs
-
 returns-2 : tie.Need-returns-2
 returns-2 c =
     let g = c .before .before in
@@ -66,11 +54,11 @@ read-along-spec =
     tie.close
     (tie.spec
     of-requires
-    is-link-requires
+    (λ c κs. search needs)
     seek-requires
-    number-requires
-    ended-requires
+    (λ c κs. search needs)
+    (λ c κs. search needs)
     returns
     read-from-requires
-    same-length
+    (λ c. search needs)
     returns-2)

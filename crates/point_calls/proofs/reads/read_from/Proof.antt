@@ -10,9 +10,6 @@ use borrow.Author.Needs.{needs}
 use Rattle.point_calls.proofs.reads.read_from.Statement.{statement}
 use Rattle.point_calls.proofs.reads.read_from.Tie as tie
 
-is-link-requires : tie.Need-is-link-requires
-is-link-requires c κs = search needs
-
 -- what was seen, by the test for LKxx that was made
 saw : (c : tie.After-is-link)
     → (let s = c .before .before .before in let a = s .args in
@@ -29,9 +26,6 @@ read-damaged-requires c κs =
     let s = c .before .before .before .before in
     (reached (s .pre .0), (find-at _ _ _ _ (s .pre .1 .1 .1 .1 .master) .in-set, s .pre .1 .0))
 
-ended-requires : tie.Need-ended-requires
-ended-requires c κs = search needs
-
 returns : tie.Need-returns
 returns c =
     let n = c .before .before .before in
@@ -44,9 +38,6 @@ give-requires c κs =
     let s = c .before .before .before .before .before .before .before in
     (reached (s .pre .0) .points .lies, (reached (s .pre .0) .points .fields, (read-low _ _ _ _ _ _ _ _ (sym (c .before .before .read-damaged .ensures) ∙ c .before .if1 .left), search needs)))
 
-same-length : tie.Need-same-length
-same-length c = search needs
-
 returns-2 : tie.Need-returns-2
 returns-2 c =
     let g = c .before .before in
@@ -58,11 +49,11 @@ pub read-from-spec : {M : Type 1} → statement M
 read-from-spec =
     tie.close
     (tie.spec
-    is-link-requires
+    (λ c κs. search needs)
     pointer-on-requires
     read-damaged-requires
-    ended-requires
+    (λ c κs. search needs)
     returns
     give-requires
-    same-length
+    (λ c. search needs)
     returns-2)

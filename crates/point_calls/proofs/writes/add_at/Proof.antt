@@ -12,9 +12,6 @@ of-requires c κs =
     let s = c .before .before .before in
     omega (arith, s .pre .1 .0, reached-under (s .pre .0 .under) .masters .ok .key-most)
 
-is-beside-requires : tie.Need-is-beside-requires
-is-beside-requires c κs = search needs
-
 abbrev start : tie.After-is-beside → tie.Start
 start d = d .before .before .before .before .before
 
@@ -27,15 +24,6 @@ seek-requires c κs =
     let d = c .before in
     let s = start d in
     (reached-under (s .pre .0 .under), (d .before .of .ensures .1 ∙ s .pre .1 .0, λ h. s .pre .1 .1 .1 .1 .looked (sym (d .is-beside .ensures) ∙ h)))
-
-number-requires : tie.Need-number-requires
-number-requires c κs = search needs
-
-ended-requires : tie.Need-ended-requires
-ended-requires c κs = search needs
-
-same-length : tie.Need-same-length
-same-length c = search needs
 
 returns : tie.Need-returns
 returns c =
@@ -60,18 +48,12 @@ add-requires c κs =
       ),
     )
 
-number-requires-2 : tie.Need-number-requires-2
-number-requires-2 c κs = search needs
-
 settle-requires : tie.Need-settle-requires
 settle-requires c κs =
     let a = c .before .before .before in
     let s = start (looked (a .before .before .before .before)) in
     let points = reached-under (s .pre .0 .under) .points in
     (points .lies, (points .fields, λ d. let w = a .add .ensures .0 (s .pre .0 .schema) (s .pre .0 .kept) .1 d in (w .1, rw (w .3) (s .pre .1 .1 .0))))
-
-same-length-2 : tie.Need-same-length-2
-same-length-2 c = search needs
 
 returns-2 : tie.Need-returns-2
 returns-2 c =
@@ -90,14 +72,14 @@ add-at-spec =
     tie.close
     (tie.spec
     of-requires
-    is-beside-requires
+    (λ c κs. search needs)
     seek-requires
-    number-requires
-    ended-requires
-    same-length
+    (λ c κs. search needs)
+    (λ c κs. search needs)
+    (λ c. search needs)
     returns
     add-requires
-    number-requires-2
+    (λ c κs. search needs)
     settle-requires
-    same-length-2
+    (λ c. search needs)
     returns-2)

@@ -22,15 +22,6 @@ seek-requires c κs =
 abbrev start : tie.After-number → tie.Start
 start n = n .before .before .before .before .before .before .before
 
-number-requires : tie.Need-number-requires
-number-requires c κs = search needs
-
-ended-requires : tie.Need-ended-requires
-ended-requires c κs = search needs
-
-same-length : tie.Need-same-length
-same-length c = search needs
-
 returns : tie.Need-returns
 returns c =
     rw (c .ended .ensures .0, c .ended .ensures .1)
@@ -47,18 +38,12 @@ delete-requires c κs =
     let s = start n in
     (paths-in (s .pre .0), (s .pre .1 .1, (on-among (s .pre .0 .under), delvd-finds _ _ _ _ _ _ _ _ _ (s .pre .0) (seen _ _ _ _ _ _ _ _ (n .before .seek .ensures) (n .before .before .before .of .ensures .0) (n .number .ensures) (c .before .before .before .before .if1 .left)))))
 
-or-link-requires : tie.Need-or-link-requires
-or-link-requires c κs = search needs
-
 settle-requires : tie.Need-settle-requires
 settle-requires c κs =
     let a = c .before .before in
     let s = start (a .before .before .before .before .before .before) in
     let points = reached-under (s .pre .0 .under) .points in
     (points .lies, (points .fields, λ d. let w = a .delete .ensures .0 (s .pre .0 .schema) (s .pre .0 .kept) .1 d in (w .1, rw (w .2) tt)))
-
-same-length-2 : tie.Need-same-length-2
-same-length-2 c = search needs
 
 returns-2 : tie.Need-returns-2
 returns-2 c =
@@ -76,13 +61,13 @@ delvd-spec =
     (tie.spec
     of-requires
     seek-requires
-    number-requires
-    ended-requires
-    same-length
+    (λ c κs. search needs)
+    (λ c κs. search needs)
+    (λ c. search needs)
     returns
     prior-on-requires
     delete-requires
-    or-link-requires
+    (λ c κs. search needs)
     settle-requires
-    same-length-2
+    (λ c. search needs)
     returns-2)

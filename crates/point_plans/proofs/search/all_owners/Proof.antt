@@ -74,29 +74,11 @@ owned o =
     let x = among s (l .loop .k) in
     o .owner-on .ensures ∙ ap (λ (key : List ℕ). ownerOf (s .args .absent) x (find (now (s .args .base)) x key)) (key-of (o .before))
 
-cast-paths : tie.Need-cast-paths Inv-loop μ-loop
-cast-paths c = search needs
-
-no-part-requires : tie.Need-no-part-requires Inv-loop μ-loop
-no-part-requires c κs = search needs
-
 loop-holds : tie.Need-loop-holds Inv-loop μ-loop
 loop-holds c =
     let s = c .before .before .before .before in
     let a = s .args in
     (omega arith, refl, s .pre .0 .points .few, refl, others-none (now (a .base)) (among s) (a .named .on) (a .absent) (keys s), refl, refl)
-
-mul-from : tie.Need-mul-from Inv-loop μ-loop
-mul-from c = search needs
-
-array-read-from : tie.Need-array-read-from Inv-loop μ-loop
-array-read-from c = search needs
-
-path-of-requires : tie.Need-path-of-requires Inv-loop μ-loop
-path-of-requires c κs = search needs
-
-cast-part : tie.Need-cast-part Inv-loop μ-loop
-cast-part c = search needs
 
 part-requires : tie.Need-part-requires Inv-loop μ-loop
 part-requires c κs =
@@ -105,12 +87,6 @@ part-requires c κs =
     let s = start l in
     let h = one-of (d .before) in
     rw (d .path-of .ensures) (s .pre .0 .points .path (l .loop .k) h .key, s .pre .1 .0 .inside (l .loop .k) h)
-
-mul-x : tie.Need-mul-x Inv-loop μ-loop
-mul-x c = search needs
-
-array-copy-out-x : tie.Need-array-copy-out-x Inv-loop μ-loop
-array-copy-out-x c = search needs
 
 owner-on-requires : tie.Need-owner-on-requires Inv-loop μ-loop
 owner-on-requires c κs =
@@ -124,9 +100,6 @@ owner-on-requires c κs =
       ),
     )
 
-number-requires : tie.Need-number-requires Inv-loop μ-loop
-number-requires c κs = search needs
-
 returns : tie.Need-returns Inv-loop μ-loop
 returns c =
     let d = c .before .before in
@@ -138,18 +111,6 @@ returns c =
           (ap (λ (o : Owner). o .status) (owned d)) n (one-of (path (d .before) .before)),
       (λ z. absurd (n (ap statusNumber z)), (λ _. rw (l .before .no-part .ensures) refl, rw (l .before .no-part .ensures) refl)),
     )
-
-mul-parts : tie.Need-mul-parts Inv-loop μ-loop
-mul-parts c = search needs
-
-array-set-from-parts : tie.Need-array-set-from-parts Inv-loop μ-loop
-array-set-from-parts c = search needs
-
-add-k : tie.Need-add-k Inv-loop μ-loop
-add-k c = search needs
-
-loop-less : tie.Need-loop-less Inv-loop μ-loop
-loop-less c = search needs
 
 loop-again : tie.Need-loop-again Inv-loop μ-loop
 loop-again c =
@@ -180,22 +141,22 @@ all-owners-spec =
     (tie.spec
     Inv-loop
     μ-loop
-    cast-paths
-    no-part-requires
+    (λ c. search needs)
+    (λ c κs. search needs)
     loop-holds
-    mul-from
-    array-read-from
-    path-of-requires
-    cast-part
+    (λ c. search needs)
+    (λ c. search needs)
+    (λ c κs. search needs)
+    (λ c. search needs)
     part-requires
-    mul-x
-    array-copy-out-x
+    (λ c. search needs)
+    (λ c. search needs)
     owner-on-requires
-    number-requires
+    (λ c κs. search needs)
     returns
-    mul-parts
-    array-set-from-parts
-    add-k
-    loop-less
+    (λ c. search needs)
+    (λ c. search needs)
+    (λ c. search needs)
+    (λ c. search needs)
     loop-again
     returns-2)

@@ -15,11 +15,5 @@ returns c =
     let s = c .before .before .before .before in
     rw (s .pre .1 .1 (c .before .if1 .taken), c .part-of .ensures)
 
-owner-among-requires : tie.Need-owner-among-requires
-owner-among-requires c κs = search needs
-
-returns-2 : tie.Need-returns-2
-returns-2 c = search needs
-
 pub owner-on-spec : {M : Type 1} → statement M
-owner-on-spec = tie.close (tie.spec part-of-requires returns owner-among-requires returns-2)
+owner-on-spec = tie.close (tie.spec part-of-requires returns (λ c κs. search needs) (λ c. search needs))

@@ -25,15 +25,6 @@ placed f =
     let p = f .before .before .before .before .before .before .before .pre .0 in
     sweeps-set _ _ _ _ _ (record { ok = p .ok; fields = p .fields; size = refl }) (f .before .before .find-any .ensures) (f .with-forms .ensures)
 
-number-requires : tie.Need-number-requires
-number-requires c κs = search needs
-
-ended-requires : tie.Need-ended-requires
-ended-requires c κs = search needs
-
-same-length : tie.Need-same-length
-same-length c = search needs
-
 returns : tie.Need-returns
 returns c =
     let n = c .before .before in
@@ -47,9 +38,6 @@ rdnxt-requires c κs =
     let z = f .before .before .before .before .before .before .before in
     (record { schema = z .args .t; set = rw (z .pre .0 .size) (k .set) }, (k .reference, k .area))
 
-same-length-2 : tie.Need-same-length-2
-same-length-2 c = search needs
-
 returns-2 : tie.Need-returns-2
 returns-2 c =
     let f = c .before .before .before .before .before .before in
@@ -61,10 +49,10 @@ on-any-spec =
     (tie.spec
     find-any-requires
     with-forms-requires
-    number-requires
-    ended-requires
-    same-length
+    (λ c κs. search needs)
+    (λ c κs. search needs)
+    (λ c. search needs)
     returns
     rdnxt-requires
-    same-length-2
+    (λ c. search needs)
     returns-2)

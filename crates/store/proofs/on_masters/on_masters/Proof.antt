@@ -17,9 +17,6 @@ find-set-requires c κs =
     let p = c .before .before .before .before .pre in
     (record { ok = p .0 .ok; fields = p .0 .fields; size = refl }, p .1)
 
-operation-requires : tie.Need-operation-requires
-operation-requires c κs = search needs
-
 with-forms-requires : tie.Need-with-forms-requires
 with-forms-requires c κs = let f = c .before .before in placed-fields _ _ (f .before .before .before .before .before .pre .0) (f .find-set .ensures)
 
@@ -29,15 +26,6 @@ placed : (f : tie.After-with-forms)
 placed f =
     let s = f .before .before .before .before .before .before .before .before in
     places-set _ _ _ _ _ _ (master-call (s .args .m)) (s .pre .0 .ok) (f .before .before .before .find-set .ensures) (rw (f .before .before .operation .ensures) at (f .with-forms .ensures))
-
-number-requires : tie.Need-number-requires
-number-requires c κs = search needs
-
-ended-requires : tie.Need-ended-requires
-ended-requires c κs = search needs
-
-same-length : tie.Need-same-length
-same-length c = search needs
 
 returns : tie.Need-returns
 returns c =
@@ -51,12 +39,6 @@ carry-out-requires c κs =
     let k = placed f .known (status-number-one _ Done (sym (c .before .before .before .number .ensures) ∙ c .before .before .if1 .left)) in
     (c .before .before .before .before .before .before .before .before .before .before .before .before .pre .0, k)
 
-same-length-2 : tie.Need-same-length-2
-same-length-2 c = search needs
-
-same-length-3 : tie.Need-same-length-3
-same-length-3 c = search needs
-
 returns-2 : tie.Need-returns-2
 returns-2 c =
     let f = c .before .before .before .before .before .before .before .before .before in
@@ -67,13 +49,13 @@ on-masters-spec =
     tie.close
     (tie.spec
     find-set-requires
-    operation-requires
+    (λ c κs. search needs)
     with-forms-requires
-    number-requires
-    ended-requires
-    same-length
+    (λ c κs. search needs)
+    (λ c κs. search needs)
+    (λ c. search needs)
     returns
     carry-out-requires
-    same-length-2
-    same-length-3
+    (λ c. search needs)
+    (λ c. search needs)
     returns-2)

@@ -18,9 +18,6 @@ find-path-requires c κs =
     let p = c .before .before .before .before .before .pre in
     (record { ok = p .0 .ok; fields = p .0 .fields; size = refl }, p .1)
 
-operation-requires : tie.Need-operation-requires
-operation-requires c κs = search needs
-
 with-forms-requires : tie.Need-with-forms-requires
 with-forms-requires c κs =
     let f = c .before .before in
@@ -35,15 +32,6 @@ placed : (f : tie.After-with-forms)
 placed f =
     let s = start f in
     locates-path _ _ _ _ _ _ _ (point-call (s .args .m)) (s .pre .0 .ok) (f .before .before .before .find-path .ensures) (rw (f .before .before .operation .ensures) at (f .with-forms .ensures))
-
-number-requires : tie.Need-number-requires
-number-requires c κs = search needs
-
-ended-requires : tie.Need-ended-requires
-ended-requires c κs = search needs
-
-same-length : tie.Need-same-length
-same-length c = search needs
 
 returns : tie.Need-returns
 returns c =
@@ -69,12 +57,6 @@ carry-out-requires c κs =
     let s = start (m .before .before .before) in
     record { schema = s .args .t; laid = s .pre .0; known = known (m .before); kept = m .masters-of .ensures }
 
-same-length-2 : tie.Need-same-length-2
-same-length-2 c = search needs
-
-same-length-3 : tie.Need-same-length-3
-same-length-3 c = search needs
-
 returns-2 : tie.Need-returns-2
 returns-2 c =
     let g = c .before .before .before .before in
@@ -87,14 +69,14 @@ on-points-spec =
     tie.close
     (tie.spec
     find-path-requires
-    operation-requires
+    (λ c κs. search needs)
     with-forms-requires
-    number-requires
-    ended-requires
-    same-length
+    (λ c κs. search needs)
+    (λ c κs. search needs)
+    (λ c. search needs)
     returns
     masters-of-requires
     carry-out-requires
-    same-length-2
-    same-length-3
+    (λ c. search needs)
+    (λ c. search needs)
     returns-2)
