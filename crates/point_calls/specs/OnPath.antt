@@ -25,7 +25,7 @@ use Rattle.masters.specs.Find.{find, isMissing, isDamaged, recordFound}
 use Rattle.points.specs.declared.Spot.{Spot}
 use Rattle.points.specs.declared.Spot.the-variants.{Last, After, Before}
 use Rattle.points.specs.Chains.{isPointOf}
-use Rattle.records.specs.InBase.{Laid, MastersOf}
+use Rattle.records.specs.InBase.{MastersOf}
 use Rattle.point_plans.specs.Within.{SpotIn}
 use Rattle.calls.specs.Call.{Call, oneOf, masterCalls, variableCalls, wholeCalls}
 use Rattle.calls.specs.Scene.{sceneUnder}
@@ -80,13 +80,6 @@ pub record PathKnown (t : Schema) (o : Operation) (r : ℕ) (k a : List ℕ) (n 
   pub same : rungsOf o .same ≡ true → areaKeyOn e a j ≡ k
   pub number : rungsOf o .number ≡ true → InSet e r
   pub link : rungsOf o .link ≡ true → (r ≡ linkOf p) ⊎ InSet e r
-
--- what a call has located is known, under a schema whose base has n bytes, and `all` are the masters of every path
-pub record LocatedIn (o : Operation) (r : ℕ) (k a : List ℕ) (l : Located) (all : List Entry) (n : ℕ) : Type 0 where
-  pub schema : Schema
-  pub laid : Laid schema n
-  pub known : PathKnown schema o r k a (l .number .0) (l .entry) (l .on) (l .path) (l .masters)
-  pub kept : MastersOf schema (l .entry) all
 
 -- the call's scene is on this path of this set
 pub record OnPath (t : Schema) (c : Call) (n : ℕ) (e : Entry) (j : ℕ) (p : Path) (x : Entry) : Type 0 where

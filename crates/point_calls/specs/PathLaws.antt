@@ -43,7 +43,7 @@ use Rattle.octets.specs.TestLaws.{asked, either}
 use Rattle.ends.specs.Asks.{Asks, placedStatus}
 use Rattle.records.specs.InBase.{Laid, IsPathUnder, IsPathAmong, MastersOf, PointsIn}
 use Rattle.point_calls.specs.declared.Located.{Located}
-use Rattle.point_calls.specs.OnPath.{PointCall, PathKnown, LocatedIn, OnPath, nowhereIn, locatedAt, formedOn, Locates}
+use Rattle.point_calls.specs.OnPath.{PointCall, PathKnown, OnPath, nowhereIn, locatedAt, formedOn, Locates}
 
 -- ---- the eight operations
 
@@ -259,8 +259,9 @@ known-under t o r k a i e on p x laid h =
     }
 
 -- with the masters of every path
-pub known-among : {n : ℕ} {o : Operation} {r : ℕ} {k a : List ℕ} {l : Located} {all : List Entry} → LocatedIn o r k a l all n → IsPathAmong (l .entry) (l .on) (l .path) (l .masters) all n
-known-among h = record { schema = h .schema; under = known-under _ _ _ _ _ _ _ _ _ _ (h .laid) (h .known); kept = h .kept }
+pub known-among : {n : ℕ} (t : Schema) (o : Operation) (r : ℕ) (k a : List ℕ) (i : ℕ) (e : Entry) (on : ℕ) (p : Path) (x : Entry) {all : List Entry}
+    → Laid t n → PathKnown t o r k a i e on p x → MastersOf t e all → IsPathAmong e on p x all n
+known-among t o r k a i e on p x laid h of = record { schema = t; under = known-under t o r k a i e on p x laid h; kept = of }
 
 -- ---- such a call exists
 

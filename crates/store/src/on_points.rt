@@ -13,38 +13,38 @@ use point_calls::writes::addvb;
 use point_calls::writes::addvc;
 use point_calls::writes::delvd;
 use point_calls::writes::writv;
-use schema::Entry;
 use schema::Schema;
 use terms::Reference;
 ghost use mathlib.Core.Path.{_≡_};
 ghost use lib.ListN.{length};
 ghost use Rattle.records.specs.InBase.{Laid};
-ghost use Rattle.point_calls.specs.OnPath.{LocatedIn, AnswersAmong};
+ghost use Rattle.point_calls.specs.OnPath.{PathKnown};
 ghost use Rattle.store.specs.Kinds.{pointOperation};
-ghost use Rattle.store.specs.Decides.{AnswersNamed};
+ghost use Rattle.store.specs.Decides.{AnswersNamed, AnswersUnder};
 
-// Set and path are known and the parameters have their forms. `all` are the masters of every path.
+// Set and path are known and the parameters have their forms. The adds and DELVD are handed the masters of every path.
 fn carry_out(
+    t: Schema,
     m: OnPoints,
     l: Located,
-    all: [Entry; 4],
     reference: Reference,
     key: &[u8],
     area: &mut [u8],
     base: &mut [u8],
 ) -> Answer
-    requires { ⌜ LocatedIn (pointOperation m) (reference .0) (now key) (now area) l all (length (now base)) ⌝ }
-    ensures { λ a. ⌜ AnswersAmong (pointOperation m) (l .entry) (l .on) (l .path) (l .masters) all (reference .0) (now (key .entry)) (now (area .entry)) (now (base .entry)) (a .status) (a .reference .0) (now (area .exit)) (now (base .exit)) ⌝ }
+    requires { ⌜ Laid t (length (now base)) ⌝ }
+    requires { ⌜ PathKnown t (pointOperation m) (reference .0) (now key) (now area) (l .number .0) (l .entry) (l .on) (l .path) (l .masters) ⌝ }
+    ensures { λ a. ⌜ AnswersUnder t (pointOperation m) l (reference .0) (now (key .entry)) (now (area .entry)) (now (base .entry)) (a .status) (a .reference .0) (now (area .exit)) (now (base .exit)) ⌝ }
 {
     match m {
         OnPoints::ReadNext => read_along(l, reference, key, false, area, base),
         OnPoints::ReadPrior => read_along(l, reference, key, true, area, base),
         OnPoints::Read => readd(l, reference, key, area, base),
         OnPoints::Write => writv(l, reference, key, area, base),
-        OnPoints::AddLast => addvc(l, all, reference, key, area, base),
-        OnPoints::AddBefore => addvb(l, all, reference, key, area, base),
-        OnPoints::AddAfter => addva(l, all, reference, key, area, base),
-        OnPoints::Delete => delvd(l, all, reference, key, area, base),
+        OnPoints::AddLast => addvc(l, masters_of(t, l.entry), reference, key, area, base),
+        OnPoints::AddBefore => addvb(l, masters_of(t, l.entry), reference, key, area, base),
+        OnPoints::AddAfter => addva(l, masters_of(t, l.entry), reference, key, area, base),
+        OnPoints::Delete => delvd(l, masters_of(t, l.entry), reference, key, area, base),
     }
 }
 
@@ -68,6 +68,5 @@ pub(crate) fn on_points(
     if status.number() != 0 {
         return ended(status, reference);
     }
-    let all = masters_of(t, l.entry);
-    carry_out(m, l, all, reference, key, area, base)
+    carry_out(t, m, l, reference, key, area, base)
 }

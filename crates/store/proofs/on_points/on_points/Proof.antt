@@ -5,7 +5,6 @@ use Rattle.terms.specs.declared.Status.the-variants.{Done}
 use Rattle.terms.specs.Laws.{status-number-one}
 use Rattle.store.specs.Kinds.{pointOperation}
 use Rattle.store.specs.KindsLaws.{point-call}
-use Rattle.records.specs.InBaseLaws.{variable-in}
 use Rattle.point_calls.specs.OnPath.{PathKnown, Locates}
 use Rattle.point_calls.specs.PathLaws.{locates-path, located-fields}
 use Rattle.store.specs.BehindLaws.{path-refused, path-carried}
@@ -45,24 +44,17 @@ known : (c : tie.Else1)
     PathKnown (a .t) (pointOperation (a .m)) (a .reference .0) (now (a .key)) (now (a .area)) (l .number .0) (l .entry) (l .on) (l .path) (l .masters))
 known c = placed (c .before .before) .known (status-number-one _ Done (sym (c .before .number .ensures) ∙ c .if1 .left))
 
-masters-of-requires : tie.Need-masters-of-requires
-masters-of-requires c κs =
-    let k = known c in
-    let s = start (c .before .before) in
-    rw (k .here) (variable-in _ (record { ok = s .pre .0 .ok; fields = s .pre .0 .fields; size = refl }) (k .behind) (k .among))
-
 carry-out-requires : tie.Need-carry-out-requires
 carry-out-requires c κs =
-    let m = c .before .before in
-    let s = start (m .before .before .before) in
-    record { schema = s .args .t; laid = s .pre .0; known = known (m .before); kept = m .masters-of .ensures }
+    let e = c .before .before in
+    (start (e .before .before) .pre .0, known e)
 
 returns-2 : tie.Need-returns-2
 returns-2 c =
     let g = c .before .before .before .before in
-    let m = g .before .before .before in
-    let n = m .before .before in
-    path-carried _ _ _ _ _ _ _ _ _ (placed (n .before)) (status-number-one _ Done (sym (n .number .ensures) ∙ m .before .if1 .left)) (m .masters-of .ensures) (g .carry-out .ensures)
+    let e = g .before .before .before in
+    let n = e .before in
+    path-carried _ _ _ _ _ _ _ _ _ (placed (n .before)) (status-number-one _ Done (sym (n .number .ensures) ∙ e .if1 .left)) (g .carry-out .ensures)
 
 pub on-points-spec : {M : Type 1} → statement M
 on-points-spec =
@@ -75,7 +67,6 @@ on-points-spec =
     (λ c κs. search needs)
     (λ c. search needs)
     returns
-    masters-of-requires
     carry-out-requires
     (λ c. search needs)
     (λ c. search needs)
