@@ -3,8 +3,23 @@
 ghost use mathlib.Core.Path.{_≡_};
 ghost use lib.ListN.{length};
 ghost use Rattle.octets.specs.Octets.{run, setWord};
-ghost use Rattle.blocks.specs.Blocks.{HasBlock, blockAt, blockWith, checkAt, checkOf, isSealed, seal};
+ghost use Rattle.blocks.specs.declared.Check.the-variants.{Sum};
+ghost use Rattle.blocks.specs.Blocks.{HasBlock, blockAt, blockWith, checkAt, checkBy, checkOf, isSealed, seal};
 use terms::BlockNo;
+
+// The kinds of check. Every block of a data base has the same.
+pub enum Check {
+    Sum,
+}
+
+impl Check {
+    // The kind that a number asks for.
+    pub fn of(number: u8) -> Check
+        ensures { λ k. ⌜ k ≡ checkBy number ⌝ }
+    {
+        Check::Sum
+    }
+}
 
 // Where block n begins.
 pub fn place_of(n: BlockNo) -> usize
@@ -30,21 +45,31 @@ pub fn block(base: &[u8], n: BlockNo) -> &[u8]
     &base[at..end]
 }
 
-// The check of the block n, of which `block` has the bytes.
-pub fn check(block: &[u8], n: BlockNo) -> u32
+// The sum of the block n's number and its first 127 words, of which `block` has the bytes.
+fn sum(block: &[u8], n: BlockNo) -> u32
     requires { ⌜ length (now block) ≡ 512 ⌝ }
-    ensures { λ r. ⌜ r ≡ checkOf (now (block .entry)) (n .0) ⌝ }
+    ensures { λ r. ⌜ r ≡ checkOf Sum (now (block .entry)) (n .0) ⌝ }
 {
     octets::word_sum(&block[..508], n.0)
 }
 
+// The check of the block n, of which `block` has the bytes.
+pub fn check_of(block: &[u8], n: BlockNo, k: Check) -> u32
+    requires { ⌜ length (now block) ≡ 512 ⌝ }
+    ensures { λ r. ⌜ r ≡ checkOf k (now (block .entry)) (n .0) ⌝ }
+{
+    match k {
+        Check::Sum => sum(block, n),
+    }
+}
+
 // Is block n's check true?
-pub fn sealed(base: &[u8], n: BlockNo) -> bool
+pub fn sealed(base: &[u8], n: BlockNo, k: Check) -> bool
     requires { ⌜ HasBlock (now base) (n .0) ⌝ }
-    ensures { λ r. ⌜ r ≡ isSealed (now (base .entry)) (n .0) ⌝ }
+    ensures { λ r. ⌜ r ≡ isSealed k (now (base .entry)) (n .0) ⌝ }
 {
     let part = block(base, n);
-    octets::word(part, 508) == check(part, n)
+    octets::word(part, 508) == check_of(part, n, k)
 }
 
 // Stores v as block n's check.
@@ -58,10 +83,10 @@ pub fn put_check(base: &mut [u8], n: BlockNo, v: u32)
 }
 
 // Sets block n's check anew.
-pub fn seal(base: &mut [u8], n: BlockNo)
+pub fn seal(base: &mut [u8], n: BlockNo, k: Check)
     requires { ⌜ HasBlock (now base) (n .0) ⌝ }
-    ensures { λ _. ⌜ now (base .exit) ≡ seal (now (base .entry)) (n .0) ⌝ }
+    ensures { λ _. ⌜ now (base .exit) ≡ seal k (now (base .entry)) (n .0) ⌝ }
 {
-    let v = check(block(base, n), n);
+    let v = check_of(block(base, n), n, k);
     put_check(base, n, v);
 }

@@ -12,7 +12,7 @@ use Rattle.octets.specs.Below.{upto, concatBelow}
 use Rattle.terms.specs.declared.Status.{Status}
 use Rattle.terms.specs.Status.{statusNumber}
 use Rattle.terms.specs.declared.Operation.{Operation}
-use Rattle.terms.specs.declared.Operation.the-variants.{Formt, Sinon, AddM, DelM, Readm, Writm, Rqloc, Rdnxt, Readv, Readr, Readd, Writv, Addvc, Addvb, Addva, Delvd, Unknown}
+use Rattle.terms.specs.declared.Operation.the-variants.{Formt, AddM, DelM, Writm, Writv, Delvd}
 use Rattle.schema.specs.declared.Path.{Path}
 use Rattle.schema.specs.declared.Entry.{Entry}
 use Rattle.schema.specs.declared.Schema.{Schema}
@@ -21,17 +21,20 @@ use Rattle.schema.specs.Place.{recordOf, placeOf}
 use Rattle.records.specs.declared.Link.{Link}
 use Rattle.records.specs.Records.{rootNext, rootPrior, isLive}
 use Rattle.records.specs.Areas.{isMaster, areaKeyPlace, areaKeys, liveHead, noLink, keysOn, areaOf, newMaster, newPaths, newVariable}
+use Rattle.blocks.specs.declared.Check.{Check}
+use Rattle.blocks.specs.Blocks.{checkBy}
 use Rattle.plans.specs.Plan.{Store, storeWord, formatted}
 use Rattle.plans.specs.PlanLaws.{AllBytes, bytes-committed, bytes-formatted}
-use Rattle.masters.specs.Find.{heldByOwn, tailFrom, lowestFree}
+use Rattle.scan.specs.Scan.{lowestFree}
+use Rattle.masters.specs.Find.{heldByOwn, tailFrom}
 use Rattle.masters.specs.Root.{rootPriorSide, rootNextSide, addMasterStores, synonymMoves, delMasterStores}
 use Rattle.points.specs.Chains.{priorSide, nextSide}
 use Rattle.points.specs.declared.Spot.{Spot}
 use Rattle.points.specs.Points.{addMaster, addLink, addStores, ownMaster, ownLink, delStores}
-use Rattle.calls.specs.Call.{Call, oneOf}
+use Rattle.calls.specs.Call.{Call, oneOf, adds}
 use Rattle.calls.specs.Scene.{Scene, sceneOf}
 use Rattle.calls.specs.Ladder.{ladder, refusal}
-use Rattle.calls.specs.Reply.{masterIn, homeOfKey, given, spotOf, areaAfter, storesBy, storesOf, baseAfter}
+use Rattle.calls.specs.Reply.{masterIn, homeOfKey, fullArea, given, spotOf, newRecord, areaAfter, writeStores, storesBy, storesOf, baseAfter}
 use Rattle.calls.specs.Outcome.{refused, done, outcomeIn, outcome}
 
 -- ---- runs put together
@@ -61,8 +64,8 @@ nulls n = record { each = bytes-zeros n }
 word : (v : ℕ) → IsBytes (wordBytes v)
 word v = record { each = bytes-wordBytes v }
 
-format : (n : ℕ) → IsBytes (formatted n)
-format n = record { each = bytes-formatted n }
+format : (k : Check) (n : ℕ) → IsBytes (formatted k n)
+format k n = record { each = bytes-formatted k n }
 
 nothing : IsBytes []
 nothing = record { each = λ i. omega arith }
@@ -181,24 +184,17 @@ module _ (e : Entry) where
       two-sides (pathOf e k) (mastersOn t e k) (ownMaster b t e r k) (l .prior) (l .next) (l .next) (l .prior)))
       (first (nulls (e .size)) none)
 
-a-call : (o : Operation) (x : Scene) (c : Call) → IsBytes (c .base) → IsBytes (c .area) → OfBytes (storesBy o x c)
-a-call AddM x c hb ha = a-addMaster (x .entry) hb ha (homeOfKey x c)
-a-call DelM x c hb ha = a-delMaster (x .entry) hb (homeOfKey x c) (masterIn x)
-a-call Writm x c hb ha = first (part (areaKeys (x .entry)) (x .entry .room) ha) none
-a-call Writv x c hb ha = first (part (areaKeys (x .entry)) (x .entry .room) ha) none
-a-call Addvc x c hb ha = a-add (x .entry) ha (c .base) (x .schema) (spotOf Addvc (c .reference)) (x .on) (lowestFree (c .base) (x .entry))
-a-call Addvb x c hb ha = a-add (x .entry) ha (c .base) (x .schema) (spotOf Addvb (c .reference)) (x .on) (lowestFree (c .base) (x .entry))
-a-call Addva x c hb ha = a-add (x .entry) ha (c .base) (x .schema) (spotOf Addva (c .reference)) (x .on) (lowestFree (c .base) (x .entry))
-a-call Delvd x c hb ha = a-del (x .entry) (c .base) (x .schema) (c .reference)
-a-call Formt x c hb ha = none
-a-call Sinon x c hb ha = none
-a-call Readm x c hb ha = none
-a-call Rqloc x c hb ha = none
-a-call Rdnxt x c hb ha = none
-a-call Readv x c hb ha = none
-a-call Readr x c hb ha = none
-a-call Readd x c hb ha = none
-a-call Unknown x c hb ha = none
+a-call : (o : Operation) (x : Scene) (c : Call) → IsBytes (c .base) → IsBytes (fullArea x c) → OfBytes (storesBy o x c)
+a-call o x c hb ha =
+    choose (oneOf o (AddM ∷ [])) (a-addMaster (x .entry) hb ha (homeOfKey x c))
+    (choose (oneOf o (DelM ∷ [])) (a-delMaster (x .entry) hb (homeOfKey x c) (masterIn x))
+    (choose (oneOf o (Writm ∷ [])) (a-write (masterIn x))
+    (choose (oneOf o (Writv ∷ [])) (a-write (c .reference))
+    (choose (oneOf o adds) (a-add (x .entry) ha (c .base) (x .schema) (spotOf o (c .reference)) (x .on) (newRecord o x c))
+    (choose (oneOf o (Delvd ∷ [])) (a-del (x .entry) (c .base) (x .schema) (c .reference)) none)))))
+  where
+    a-write : (r : ℕ) → OfBytes (writeStores x c r)
+    a-write r = first (part (areaKeys (x .entry)) (x .entry .room) ha) none
 
 -- ---- the outcome
 
@@ -206,8 +202,8 @@ module _ (x : Scene) (c : Call) (hb : IsBytes (c .base)) (ha : IsBytes (c .area)
   base-done : IsBytes (baseAfter x c)
   unfolding baseAfter storesOf
   base-done =
-      either (oneOf (x .operation) (Formt ∷ [])) (format _)
-      (record { each = bytes-committed (c .base) (storesBy (x .operation) x c) (a-call (x .operation) x c hb ha .each) (hb .each) })
+      either (oneOf (x .operation) (Formt ∷ [])) (format _ _)
+      (record { each = bytes-committed (checkBy (x .schema .edition)) (c .base) (storesBy (x .operation) x c) (a-call (x .operation) x c hb ha .each) (hb .each) })
 
   area-done : IsBytes (areaAfter x c)
   unfolding areaAfter
@@ -227,9 +223,9 @@ module _ (x : Scene) (c : Call) (hb : IsBytes (c .base)) (ha : IsBytes (c .area)
 pub base-bytes : (c : Call) → Bytes (c .base) → Bytes (c .area) → Bytes (outcome c .base)
 unfolding outcome outcomeIn
 base-bytes c hb ha =
-    base-in (sceneOf c) c (record { each = hb }) (record { each = ha }) (eqb (statusNumber (refusal (ladder (sceneOf c) c))) 0) (refusal (ladder (sceneOf c) c)) .each
+    base-in (sceneOf c) c (record { each = hb }) (record { each = ha }) (eqb (statusNumber (refusal (sceneOf c) c (ladder (sceneOf c)))) 0) (refusal (sceneOf c) c (ladder (sceneOf c))) .each
 
 pub area-bytes : (c : Call) → Bytes (c .base) → Bytes (c .area) → Bytes (outcome c .area)
 unfolding outcome outcomeIn
 area-bytes c hb ha =
-    area-in (sceneOf c) c (record { each = hb }) (record { each = ha }) (eqb (statusNumber (refusal (ladder (sceneOf c) c))) 0) (refusal (ladder (sceneOf c) c)) .each
+    area-in (sceneOf c) c (record { each = hb }) (record { each = ha }) (eqb (statusNumber (refusal (sceneOf c) c (ladder (sceneOf c)))) 0) (refusal (sceneOf c) c (ladder (sceneOf c))) .each

@@ -1,6 +1,6 @@
 -- Document 01, "The calls we buy": what a call is given and what it returns, and groups of operations.
 use Prim.Native.Nat.{ℕ}
-use mathlib.Core.Bool.{Bool, false, _||_}
+use mathlib.Core.Bool.{Bool, false, cond, _||_}
 use mathlib.Core.List.{List, [], _∷_}
 use lib.Dec.{eqb}
 use Rattle.terms.specs.declared.Status.{Status}
@@ -63,6 +63,15 @@ operationNumber Unknown = 16
 abbrev pub oneOf : Operation → List Operation → Bool
 oneOf o [] = false
 oneOf o (q ∷ qs) = eqb (operationNumber o) (operationNumber q) || oneOf o qs
+
+-- what a table has for an operation: the first row whose operations it is among, or what holds of all that the table does not name
+abbrev pub chosen : {A : Type 0} → Operation → List (List Operation × A) → A → A
+chosen o [] other = other
+chosen o (row ∷ rows) other = cond (oneOf o (row .0)) (row .1) (chosen o rows other)
+
+-- the calls that name no set: "FORMT and SINON test no more parameters"
+abbrev pub wholeCalls : List Operation
+wholeCalls = Formt ∷ Sinon ∷ []
 
 -- the calls on a master set, and those on a variable set; RDNXT takes both kinds
 abbrev pub masterCalls : List Operation

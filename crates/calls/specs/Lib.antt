@@ -7,6 +7,8 @@ pub mod Outcome
 pub mod Word
 pub mod Theorems
 pub mod WordLaws
+pub mod Opened
+pub mod OperationLaws
 pub mod LadderLaws
 pub mod OutcomeLaws
 pub mod BytesLaws

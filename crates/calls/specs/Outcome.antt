@@ -20,7 +20,7 @@ unfoldable pub done : Scene → Call → Outcome
 done x c = record { status = Done; reference = referenceAfter x c; area = areaAfter x c; base = baseAfter x c }
 
 unfoldable pub outcomeIn : Scene → Call → Outcome
-outcomeIn x c = cond (eqb (statusNumber (refusal (ladder x c))) 0) (done x c) (refused c (refusal (ladder x c)))
+outcomeIn x c = cond (eqb (statusNumber (refusal x c (ladder x))) 0) (done x c) (refused c (refusal x c (ladder x)))
 
 unfoldable pub outcome : Call → Outcome
 outcome c = outcomeIn (sceneOf c) c

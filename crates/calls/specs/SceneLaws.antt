@@ -1,8 +1,10 @@
 -- What the scene of a call holds, part by part.
+use Prim.Native.Nat.{ℕ, _<_}
 use mathlib.Core.Path.{_≡_, refl}
 use Rattle.terms.specs.Operation.{operationOf}
 use Rattle.schema.specs.declared.Schema.{Schema}
-use Rattle.schema.specs.Decode.{entryOf, pathOf}
+use Rattle.schema.specs.Decode.{entryOf, pathOf, setCount}
+use Rattle.schema.specs.Guarantee.{SchemaOk}
 use Rattle.masters.specs.Find.{find}
 use Rattle.calls.specs.Call.{Call}
 use Rattle.calls.specs.Scene.{sceneUnder}
@@ -12,6 +14,10 @@ module _ (t : Schema) (c : Call) where
   pub schema-here : sceneUnder t c .schema ≡ t
   unfolding sceneUnder
   schema-here = refl
+
+  -- every set has the schema's edition
+  pub edition-here : SchemaOk t → (i : ℕ) → i < setCount t → sceneUnder t c .schema .edition ≡ entryOf t i .edition
+  edition-here ok i l = rw (schema-here, ok .set i l .edition) refl
 
   pub operation-here : sceneUnder t c .operation ≡ operationOf (c .operation)
   unfolding sceneUnder

@@ -40,7 +40,7 @@ pub refused-changes-nothing : (c : Call) → (outcome c .status ≡ Done → ⊥
     → outcome c ≡ record { status = outcome c .status; reference = c .reference; area = c .area; base = c .base }
 unfolding outcome outcomeIn done
 refused-changes-nothing c n =
-    either (eqb (statusNumber (refusal (ladder (sceneOf c) c))) 0) c (done (sceneOf c) c) (refusal (ladder (sceneOf c) c)) refl n
+    either (eqb (statusNumber (refusal (sceneOf c) c (ladder (sceneOf c)))) 0) c (done (sceneOf c) c) (refusal (sceneOf c) c (ladder (sceneOf c))) refl n
 
 -- the status is the one that the ladder gives
 zero-done : (s : Status) → eqb (statusNumber s) 0 ≡ true → s ≡ Done
@@ -50,8 +50,8 @@ either-status : (b : Bool) (s : Status) (o : Outcome) (c : Call) → o .status �
 either-status true s o c e d = e ∙ sym (d refl)
 either-status false s o c e d = refl
 
-pub status-of-ladder : (c : Call) → outcome c .status ≡ refusal (ladder (sceneOf c) c)
+pub status-of-ladder : (c : Call) → outcome c .status ≡ refusal (sceneOf c) c (ladder (sceneOf c))
 unfolding outcome outcomeIn done
 status-of-ladder c =
-    either-status (eqb (statusNumber (refusal (ladder (sceneOf c) c))) 0) (refusal (ladder (sceneOf c) c)) (done (sceneOf c) c) c refl
-    (zero-done (refusal (ladder (sceneOf c) c)))
+    either-status (eqb (statusNumber (refusal (sceneOf c) c (ladder (sceneOf c)))) 0) (refusal (sceneOf c) c (ladder (sceneOf c))) (done (sceneOf c) c) c refl
+    (zero-done (refusal (sceneOf c) c (ladder (sceneOf c))))

@@ -6,36 +6,14 @@ use mathlib.Core.List.{List, [], _∷_}
 use native.Mathlib.Omega.{arith}
 use lib.ListN.{length, getD}
 use Rattle.octets.specs.RunLaws.{sameBytes-eq}
-use Rattle.octets.specs.Octets.{sameBytes}
-use Rattle.schema.specs.Decode.{schemaOf}
-use Rattle.plans.specs.Plan.{formatted}
-use Rattle.masters.specs.Find.{find, lowestFree}
-use Rattle.calls.specs.Outcome.{outcome}
+use Rattle.calls.specs.Opened.{opened}
 use Rattle.cases.specs.Small.{smallSchema, bottleCall}
-use Rattle.octets.specs.Octets.{halfAt, wordAt, splice, setWord, every, sumOnto}
-use Rattle.octets.specs.Below.{allBelow, sumBelow, countBelow, lowestFrom, concatBelow}
-use Rattle.terms.specs.Operation.{operationOf}
-use Rattle.blocks.specs.Blocks.{checkOf, isSealed, seal}
-use Rattle.schema.specs.Rules.{blockRule, headRule, nameRule, masterRule, variableRule, recordsRule, pathRule, slotRule, setRule, entryRule, restRule, namesRule, clash, lettersRule, formRule}
-use Rattle.schema.specs.Layout.{linksBefore, keyPlace, linkPlace, bodyPlace, firstBlock, sizeRule, keepsRules}
-use Rattle.schema.specs.Decode.{pathFrom, entryFrom}
-use Rattle.schema.specs.Place.{blockOf, placeOf}
-use Rattle.records.specs.Areas.{newMaster}
-use Rattle.plans.specs.Plan.{blocksSealed, storeAll, sealAll, committed, sealBelow}
-use Rattle.masters.specs.Find.{seek, tailFrom}
-use Rattle.masters.specs.Root.{addMasterFull, addMasterDamaged, addMasterStores, delMasterDamaged, delMasterStores}
-use Rattle.calls.specs.Scene.{sceneUnder}
-use Rattle.schema.specs.Naming.{setNamed, pathNamed}
-use Rattle.calls.specs.Reply.{given, referenceAfter, areaAfter, storesOf, baseAfter}
-use Rattle.points.specs.Chains.{hasPoints}
-use Rattle.calls.specs.Ladder.{refusal, wrongKind, blankAreaKey, otherAreaKey, ladder}
-use Rattle.calls.specs.Outcome.{done, outcomeIn}
 use Rattle.cases.specs.Small.{twoSets}
 use Rattle.cases.specs.Cases.{Case, after, ask, play, places, table, right, allRight}
 
 -- every definition on the way is opened, and the whole table computes to true
 all-right : allRight table ≡ true
-unfolding halfAt wordAt splice setWord every sameBytes sumOnto allBelow sumBelow countBelow lowestFrom operationOf checkOf isSealed seal blockRule headRule nameRule masterRule variableRule recordsRule pathRule slotRule setRule entryRule restRule namesRule clash lettersRule formRule linksBefore keyPlace linkPlace bodyPlace firstBlock sizeRule keepsRules pathFrom entryFrom schemaOf blockOf placeOf newMaster blocksSealed storeAll sealAll committed sealBelow formatted seek find tailFrom lowestFree addMasterFull addMasterDamaged addMasterStores delMasterDamaged delMasterStores setNamed pathNamed sceneUnder given referenceAfter areaAfter storesOf baseAfter refusal wrongKind blankAreaKey otherAreaKey concatBelow hasPoints ladder done outcomeIn outcome twoSets smallSchema bottleCall places play ask table right allRight
+unfolding opened twoSets smallSchema bottleCall places play ask table right allRight
 all-right = refl
 
 -- past the table's end

@@ -9,8 +9,10 @@ use Rattle.terms.specs.Terms.{homeOf}
 use Rattle.terms.specs.Status.{statusNumber}
 use Rattle.schema.specs.Layout.{lengthOf, totalBlocks}
 use Rattle.schema.specs.Decode.{entryOf, schemaOf}
+use Rattle.blocks.specs.declared.Check.the-variants.{Sum}
 use Rattle.plans.specs.Plan.{formatted}
-use Rattle.masters.specs.Find.{find, recordFound, lowestFree}
+use Rattle.scan.specs.Scan.{lowestFree}
+use Rattle.masters.specs.Find.{find, recordFound}
 use Rattle.calls.specs.Call.{Call, Outcome}
 use Rattle.calls.specs.Outcome.{outcome}
 use Rattle.cases.specs.Small.{smallSchema, bottleCall}
@@ -63,7 +65,7 @@ unfoldable pub ask : Question → List ℕ
 ask sizes = lengthOf (smallSchema 6) 0 ∷ lengthOf (smallSchema 6) 1 ∷ totalBlocks (smallSchema 6) ∷ []
 ask (home r key) = homeOf r key ∷ []
 ask (points r) = statusNumber (outcome (record { operation = text "FORMT"; name = []; reference = 0; path = []; key = []; area = []; schema = smallSchema r; base = [] }) .status) ∷ []
-ask (after steps) = play steps (formatted 2)
+ask (after steps) = play steps (formatted Sum 2)
 
 -- ---- the table
 

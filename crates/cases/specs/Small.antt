@@ -4,6 +4,7 @@ use mathlib.Core.List.{List, _∷_, _++_}
 use lib.ListN.{length}
 use Rattle.octets.specs.Octets.{wordBytes, zeros}
 use Rattle.octets.specs.Text.{text}
+use Rattle.blocks.specs.declared.Check.the-variants.{Sum}
 use Rattle.blocks.specs.Blocks.{seal}
 use Rattle.calls.specs.Call.{Call}
 
@@ -20,7 +21,7 @@ abbrev pub pnts : ℕ → List ℕ
 pnts r = text "PNTS" ++ (2 ∷ 1 ∷ 0 ∷ 4 ∷ wordBytes r ++ (zeros 4 ++ (text "PT" ++ zeros 30)))
 
 unfoldable pub smallSchema : ℕ → List ℕ
-smallSchema r = seal (twoSets botl (pnts r)) 0
+smallSchema r = seal Sum (twoSets botl (pnts r)) 0
 
 -- a call of the small store on a bottle; set and path that it does not need are blanks
 unfoldable pub bottleCall : List ℕ → List ℕ → List ℕ → List ℕ → Call

@@ -1,5 +1,6 @@
 // The part of sign-on's judgement that looks at bytes alone: checks, states, fillers, free records and leftovers. Each function answers
 // what one definition of sound/specs/Sound.antt says, and leaves at the first byte that is wrong.
+use blocks::Check;
 use schema::Entry;
 use schema::Schema;
 use schema::layout::blocks_held;
@@ -16,13 +17,13 @@ ghost use Rattle.schema.specs.Place.{InSet, LiesIn, blocksHeld};
 ghost use Rattle.sound.specs.Sound.{eachRecord, checksTrue, recordClean, leftoverClean, setClean};
 
 // Are the checks of the first n blocks true?
-fn sealed_below(base: &[u8], n: u32) -> bool
+fn sealed_below(base: &[u8], n: u32, k: Check) -> bool
     requires { ⌜ n * 512 ≤ length (now base) ⌝ }
-    ensures { λ r. ⌜ r ≡ allBelow (isSealed (now (base .entry))) n ⌝ }
+    ensures { λ r. ⌜ r ≡ allBelow (isSealed k (now (base .entry))) n ⌝ }
 {
     let mut i: u32 = 0;
     while i < n {
-        if !blocks::sealed(base, BlockNo(i)) {
+        if !blocks::sealed(base, BlockNo(i), k) {
             return false;
         }
         i += 1;
@@ -35,7 +36,7 @@ pub fn checks_true(base: &[u8], t: Schema) -> bool
     requires { ⌜ t .blocks * 512 ≤ length (now base) ⌝ }
     ensures { λ r. ⌜ r ≡ checksTrue t (now (base .entry)) ⌝ }
 {
-    sealed_below(base, t.blocks)
+    sealed_below(base, t.blocks, Check::of(t.edition))
 }
 
 // A live record has three zeros behind its state; any other record is all zero, so that its state is 0.

@@ -6,6 +6,7 @@ use mathlib.Core.List.{List}
 use Prim.Native.Nat.{ℕ}
 use lib.ListN.{length}
 use Rattle.octets.specs.Octets.{Bytes}
+use Rattle.blocks.specs.declared.Check.{Check}
 use Rattle.blocks.specs.Blocks.{isSealed}
 use Rattle.schema.specs.declared.Entry.{Entry}
 use Rattle.schema.specs.Place.{LiesIn}
@@ -22,25 +23,25 @@ module _ (b : List ℕ) (e : Entry) (area : List ℕ) (p : Plan) (ok : LiesIn e 
   pub touched-within : AllWithin (length b) ns
   touched-within = rw q (every-distinct (blockWithin (length b)) (planBlocks e p) ∙ plan-within (length b) e ok p k)
 
-  pub touched-sealed : allSealed b ns ≡ blocksSealed b (planStores b e area p)
-  touched-sealed =
-      ap (allSealed b) q
-      ∙ every-distinct (isSealed b) (planBlocks e p)
-      ∙ ap (allSealed b) (sym (plan-blocks b e area ok p k))
-      ∙ sym (blocksSealed-blocks b (planStores b e area p))
+  pub touched-sealed : (c : Check) → allSealed c b ns ≡ blocksSealed c b (planStores b e area p)
+  touched-sealed c =
+      ap (allSealed c b) q
+      ∙ every-distinct (isSealed c b) (planBlocks e p)
+      ∙ ap (allSealed c b) (sym (plan-blocks b e area ok p k))
+      ∙ sym (blocksSealed-blocks c b (planStores b e area p))
 
   -- x is what the stores leave, and y what setting the checks makes of it
-  pub touched-committed : (x y : List ℕ) → Bytes x → x ≡ storeAll b (planStores b e area p) → y ≡ sealEach x ns → y ≡ committed b (planStores b e area p)
+  pub touched-committed : (c : Check) (x y : List ℕ) → Bytes x → x ≡ storeAll b (planStores b e area p) → y ≡ sealEach c x ns → y ≡ committed c b (planStores b e area p)
   unfolding committed
-  touched-committed x y h s t =
+  touched-committed c x y h s t =
       let xs = planStores b e area p in
       let l : length x ≡ length b = ap length s ∙ length-storeAll b xs in
       let w : AllWithin (length x) (planBlocks e p) = rw l (plan-within (length b) e ok p k) in
       t
-      ∙ ap (sealEach x) q
-      ∙ sealEach-distinct x (planBlocks e p) h w
-      ∙ ap (sealEach x) (sym (plan-blocks b e area ok p k))
-      ∙ (rw s (sym (sealAll-blocks (storeAll b xs) xs)))
+      ∙ ap (sealEach c x) q
+      ∙ sealEach-distinct c x (planBlocks e p) h w
+      ∙ ap (sealEach c x) (sym (plan-blocks b e area ok p k))
+      ∙ (rw s (sym (sealAll-blocks c (storeAll b xs) xs)))
 
 -- the outcome, by the answer
 pub commit-refused : {t u : Bool} (x y : List ℕ) → t ≡ u → t ≡ false → (false ≡ u) × (y ≡ cond u x y)

@@ -12,6 +12,7 @@ use lib.ListN.{length}
 use Rattle.octets.specs.Octets.{Bytes, every}
 use Rattle.octets.specs.RunLaws.{every-append}
 use Rattle.octets.specs.BelowLaws.{same?}
+use Rattle.blocks.specs.declared.Check.{Check}
 use Rattle.blocks.specs.Blocks.{blockAt, isSealed, seal}
 use Rattle.blocks.specs.Laws.{length-seal, bytes-seal, isSealed-seal, isSealed-seal-other, seal-sealed}
 use Rattle.commit.specs.Touched.{isOther, isNew, addNew, addAll, distinct, once, blockWithin, AllWithin, sealEach}
@@ -78,58 +79,59 @@ every-distinct f ns = every-addAll f [] ns
 
 -- ---- every block sealed
 
-pub length-sealEach : (b ns : List ℕ) → length (sealEach b ns) ≡ length b
-unfolding sealEach
-length-sealEach b [] = refl
-length-sealEach b (n ∷ ns) = length-sealEach (seal b n) ns ∙ length-seal b n
+module _ (k : Check) where
+  pub length-sealEach : (b ns : List ℕ) → length (sealEach k b ns) ≡ length b
+  unfolding sealEach
+  length-sealEach b [] = refl
+  length-sealEach b (n ∷ ns) = length-sealEach (seal k b n) ns ∙ length-seal k b n
 
-bytes-sealEach : (b ns : List ℕ) → Bytes b → Bytes (sealEach b ns)
-unfolding sealEach
-bytes-sealEach b [] h = h
-bytes-sealEach b (n ∷ ns) h = bytes-sealEach (seal b n) ns (bytes-seal b n h)
+  bytes-sealEach : (b ns : List ℕ) → Bytes b → Bytes (sealEach k b ns)
+  unfolding sealEach
+  bytes-sealEach b [] h = h
+  bytes-sealEach b (n ∷ ns) h = bytes-sealEach (seal k b n) ns (bytes-seal k b n h)
 
-sealEach-append : (b ks ns : List ℕ) → sealEach b (ks ++ ns) ≡ sealEach (sealEach b ks) ns
-unfolding sealEach
-sealEach-append b [] ns = refl
-sealEach-append b (k ∷ ks) ns = sealEach-append (seal b k) ks ns
+  sealEach-append : (b ks ns : List ℕ) → sealEach k b (ks ++ ns) ≡ sealEach k (sealEach k b ks) ns
+  unfolding sealEach
+  sealEach-append b [] ns = refl
+  sealEach-append b (n ∷ ks) ns = sealEach-append (seal k b n) ks ns
 
--- a sealed block stays sealed, and one of the numbers is sealed
-sealed-kept : (b ns : List ℕ) (n : ℕ) → blockAt n + 512 ≤ length b → isSealed b n ≡ true → isSealed (sealEach b ns) n ≡ true
-unfolding sealEach
-sealed-kept b [] n w h = h
-sealed-kept b (m ∷ ms) n w h =
-    sealed-kept (seal b m) ms n (rw (length-seal b m) w)
-    (⊎-elim (λ e. rw e (isSealed-seal b m (rw e at w))) (λ e. isSealed-seal-other b m n e ∙ h) (same? n m))
+  -- a sealed block stays sealed, and one of the numbers is sealed
+  sealed-kept : (b ns : List ℕ) (n : ℕ) → blockAt n + 512 ≤ length b → isSealed k b n ≡ true → isSealed k (sealEach k b ns) n ≡ true
+  unfolding sealEach
+  sealed-kept b [] n w h = h
+  sealed-kept b (m ∷ ms) n w h =
+      sealed-kept (seal k b m) ms n (rw (length-seal k b m) w)
+      (⊎-elim (λ e. rw e (isSealed-seal k b m (rw e at w))) (λ e. isSealed-seal-other k b m n e ∙ h) (same? n m))
 
-sealed-among : (b ns : List ℕ) (n : ℕ) → blockAt n + 512 ≤ length b → isNew n ns ≡ false → isSealed (sealEach b ns) n ≡ true
-unfolding sealEach every
-sealed-among b [] n w h = absurd (let z : _≡_ {A = ℕ} 0 1 = cc in omega arith)
-sealed-among b (m ∷ ms) n w h =
-    let l : blockAt n + 512 ≤ length (seal b m) = rw (length-seal b m) w in
-    ⊎-elim
-    (λ e. sealed-kept (seal b m) ms n l (rw e (isSealed-seal b n w)))
-    (λ e. sealed-among (seal b m) ms n l (rw (ne-eqb m n e) at h))
-    (same? m n)
+  sealed-among : (b ns : List ℕ) (n : ℕ) → blockAt n + 512 ≤ length b → isNew n ns ≡ false → isSealed k (sealEach k b ns) n ≡ true
+  unfolding sealEach every
+  sealed-among b [] n w h = absurd (let z : _≡_ {A = ℕ} 0 1 = cc in omega arith)
+  sealed-among b (m ∷ ms) n w h =
+      let l : blockAt n + 512 ≤ length (seal k b m) = rw (length-seal k b m) w in
+      ⊎-elim
+      (λ e. sealed-kept (seal k b m) ms n l (rw e (isSealed-seal k b n w)))
+      (λ e. sealed-among (seal k b m) ms n l (rw (ne-eqb m n e) at h))
+      (same? m n)
 
--- sealing a block that has been sealed changes nothing
-sealEach-addNew : (b ks : List ℕ) (n : ℕ) → Bytes b → blockAt n + 512 ≤ length b → sealEach b (addNew ks n) ≡ seal (sealEach b ks) n
-unfolding sealEach
-sealEach-addNew b ks n h w = go (isNew n ks) refl
-  where
-    go : (t : Bool) → isNew n ks ≡ t → sealEach b (cond t (ks ++ (n ∷ [])) ks) ≡ seal (sealEach b ks) n
-    go true e = sealEach-append b ks (n ∷ [])
-    go false e = sym (seal-sealed (sealEach b ks) n (sealed-among b ks n w e) (rw (length-sealEach b ks) w) (bytes-sealEach b ks h))
+  -- sealing a block that has been sealed changes nothing
+  sealEach-addNew : (b ks : List ℕ) (n : ℕ) → Bytes b → blockAt n + 512 ≤ length b → sealEach k b (addNew ks n) ≡ seal k (sealEach k b ks) n
+  unfolding sealEach
+  sealEach-addNew b ks n h w = go (isNew n ks) refl
+    where
+      go : (t : Bool) → isNew n ks ≡ t → sealEach k b (cond t (ks ++ (n ∷ [])) ks) ≡ seal k (sealEach k b ks) n
+      go true e = sealEach-append b ks (n ∷ [])
+      go false e = sym (seal-sealed k (sealEach k b ks) n (sealed-among b ks n w e) (rw (length-sealEach b ks) w) (bytes-sealEach b ks h))
 
-sealEach-addAll : (b ks ns : List ℕ) → Bytes b → AllWithin (length b) ns → sealEach b (addAll ks ns) ≡ sealEach (sealEach b ks) ns
-unfolding sealEach addAll every
-sealEach-addAll b ks [] h w = refl
-sealEach-addAll b ks (n ∷ ns) h w =
-    let t = and-eq-true-iff (blockWithin (length b) n) (every (blockWithin (length b)) ns) .0 w in
-    sealEach-addAll b (addNew ks n) ns h (t .1) ∙ (rw (sealEach-addNew b ks n h (leb-true _ _ (t .0))) refl)
+  sealEach-addAll : (b ks ns : List ℕ) → Bytes b → AllWithin (length b) ns → sealEach k b (addAll ks ns) ≡ sealEach k (sealEach k b ks) ns
+  unfolding sealEach addAll every
+  sealEach-addAll b ks [] h w = refl
+  sealEach-addAll b ks (n ∷ ns) h w =
+      let t = and-eq-true-iff (blockWithin (length b) n) (every (blockWithin (length b)) ns) .0 w in
+      sealEach-addAll b (addNew ks n) ns h (t .1) ∙ (rw (sealEach-addNew b ks n h (leb-true _ _ (t .0))) refl)
 
-pub sealEach-distinct : (b ns : List ℕ) → Bytes b → AllWithin (length b) ns → sealEach b (distinct ns) ≡ sealEach b ns
-unfolding sealEach
-sealEach-distinct b ns h w = sealEach-addAll b [] ns h w
+  pub sealEach-distinct : (b ns : List ℕ) → Bytes b → AllWithin (length b) ns → sealEach k b (distinct ns) ≡ sealEach k b ns
+  unfolding sealEach
+  sealEach-distinct b ns h w = sealEach-addAll b [] ns h w
 
 -- ---- numbers, part by part
 

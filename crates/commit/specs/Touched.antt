@@ -8,6 +8,7 @@ use lib.Dec.{eqb, leb}
 use lib.ListN.{take}
 use Rattle.octets.specs.Octets.{every}
 use Rattle.terms.specs.declared.BlockNo.{BlockNo}
+use Rattle.blocks.specs.declared.Check.{Check}
 use Rattle.blocks.specs.Blocks.{blockAt, blockWith, isSealed, seal}
 use Rattle.schema.specs.declared.Entry.{Entry}
 use Rattle.schema.specs.Place.{blockOf}
@@ -66,14 +67,14 @@ blockWithin n k = leb (blockAt k + 512) n
 abbrev pub AllWithin : ℕ → List ℕ → Type 0
 AllWithin n ks = every (blockWithin n) ks ≡ true
 
--- every check is true
-abbrev pub allSealed : List ℕ → List ℕ → Bool
-allSealed b ns = every (isSealed b) ns
+-- every check, of the kind k, is true
+abbrev pub allSealed : Check → List ℕ → List ℕ → Bool
+allSealed k b ns = every (isSealed k b) ns
 
 -- every check is set anew, one after the other
-unfoldable pub sealEach : List ℕ → List ℕ → List ℕ
-sealEach b [] = b
-sealEach b (n ∷ ns) = sealEach (seal b n) ns
+unfoldable pub sealEach : Check → List ℕ → List ℕ → List ℕ
+sealEach k b [] = b
+sealEach k b (n ∷ ns) = sealEach k (seal k b n) ns
 
 -- ---- of stores, and of a plan
 

@@ -14,6 +14,7 @@ use Rattle.octets.specs.Octets.{every}
 use Rattle.octets.specs.SpliceLaws.{drop-one}
 use Rattle.octets.specs.RunLaws.{every-append, every-turn, every-fails, every-end, every-at}
 use Rattle.terms.specs.declared.BlockNo.{BlockNo}
+use Rattle.blocks.specs.declared.Check.{Check}
 use Rattle.blocks.specs.Blocks.{blockAt, blockWith, seal}
 use Rattle.schema.specs.declared.Entry.{Entry}
 use Rattle.schema.specs.Place.{InSet, LiesIn, blockOf}
@@ -68,13 +69,13 @@ module _ (s : Blocks) (whole : length (s .numbers) ≡ 12) (few : s .count ≤ 1
   pub block-within : (n i : ℕ) → AllWithin n (numbersOf s) → i < s .count → blockAt (getD (s .numbers) i noBlock .0) + 512 ≤ n
   block-within n i w h = rw (block-is i h) at (leb-true (blockAt (getD (numbersOf s) i 0) + 512) n (every-at (blockWithin n) (numbersOf s) i w (omega (arith, count-blocks))))
 
-  pub seal-turn : (b : List ℕ) (i : ℕ) → i < s .count → sealEach b (drop i (numbersOf s)) ≡ sealEach (seal b (getD (s .numbers) i noBlock .0)) (drop (i + 1) (numbersOf s))
+  pub seal-turn : (k : Check) (b : List ℕ) (i : ℕ) → i < s .count → sealEach k b (drop i (numbersOf s)) ≡ sealEach k (seal k b (getD (s .numbers) i noBlock .0)) (drop (i + 1) (numbersOf s))
   unfolding sealEach
-  seal-turn b i h = rw (drop-one (numbersOf s) i (omega (arith, count-blocks)), block-is i h) refl
+  seal-turn k b i h = rw (drop-one (numbersOf s) i (omega (arith, count-blocks)), block-is i h) refl
 
-  pub seal-end : (b : List ℕ) (i : ℕ) → s .count ≤ i → sealEach b (drop i (numbersOf s)) ≡ b
+  pub seal-end : (k : Check) (b : List ℕ) (i : ℕ) → s .count ≤ i → sealEach k b (drop i (numbersOf s)) ≡ b
   unfolding sealEach
-  seal-end b i h = rw (drop-of-length-le (numbersOf s) {i = i} (omega (arith, count-blocks))) refl
+  seal-end k b i h = rw (drop-of-length-le (numbersOf s) {i = i} (omega (arith, count-blocks))) refl
 
 -- one more number, or one that is there
 pub block-added : (s : Blocks) (n : BlockNo) → length (s .numbers) ≡ 12 → s .count < 12 → isNew (n .0) (numbersOf s) ≡ true
@@ -109,15 +110,15 @@ module _ (p : Plan) (whole : length (p .words) ≡ 8) (few : p .count ≤ 8) whe
 
 -- ---- the blocks of stores
 
-pub blocksSealed-blocks : (b : List ℕ) (xs : List Store) → blocksSealed b xs ≡ allSealed b (storeBlocks xs)
+pub blocksSealed-blocks : (k : Check) (b : List ℕ) (xs : List Store) → blocksSealed k b xs ≡ allSealed k b (storeBlocks xs)
 unfolding blocksSealed storeBlocks every
-blocksSealed-blocks b [] = refl
-blocksSealed-blocks b (x ∷ xs) = rw (blocksSealed-blocks b xs) refl
+blocksSealed-blocks k b [] = refl
+blocksSealed-blocks k b (x ∷ xs) = rw (blocksSealed-blocks k b xs) refl
 
-pub sealAll-blocks : (b : List ℕ) (xs : List Store) → sealAll b xs ≡ sealEach b (storeBlocks xs)
+pub sealAll-blocks : (k : Check) (b : List ℕ) (xs : List Store) → sealAll k b xs ≡ sealEach k b (storeBlocks xs)
 unfolding sealAll sealEach storeBlocks
-sealAll-blocks b [] = refl
-sealAll-blocks b (x ∷ xs) = sealAll-blocks (seal b _) xs
+sealAll-blocks k b [] = refl
+sealAll-blocks k b (x ∷ xs) = sealAll-blocks k (seal k b _) xs
 
 storeBlocks-append : (xs ys : List Store) → storeBlocks (xs ++ ys) ≡ storeBlocks xs ++ storeBlocks ys
 unfolding storeBlocks

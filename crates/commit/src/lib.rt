@@ -3,6 +3,7 @@
 use areas::put_body;
 use areas::put_master;
 use areas::put_variable;
+use blocks::Check;
 use blocks::block_with;
 use plans::Head;
 use plans::Plan;
@@ -21,6 +22,7 @@ ghost use mathlib.Core.List.{[]};
 ghost use Prim.Native.Nat.{_+_, _≤_, _<_};
 ghost use lib.ListN.{length};
 ghost use Rattle.octets.specs.Octets.{splice, setWord};
+ghost use Rattle.blocks.specs.Blocks.{checkBy};
 ghost use Rattle.schema.specs.Place.{InSet, LiesIn, placeOf, recordOf};
 ghost use Rattle.records.specs.Fields.{Fields};
 ghost use Rattle.records.specs.Areas.{areaLength, newMaster};
@@ -138,16 +140,16 @@ fn touched(e: Entry, p: Plan) -> Blocks
 }
 
 // Are all their checks true?
-fn all_sealed(base: &[u8], blocks: Blocks) -> bool
+fn all_sealed(base: &[u8], blocks: Blocks, kind: Check) -> bool
     requires { ⌜ blocks .count ≤ 11 ⌝ }
     requires { ⌜ AllWithin (length (now base)) (numbersOf blocks) ⌝ }
-    ensures { λ r. ⌜ r ≡ allSealed (now (base .entry)) (numbersOf blocks) ⌝ }
+    ensures { λ r. ⌜ r ≡ allSealed kind (now (base .entry)) (numbersOf blocks) ⌝ }
 {
     let count = blocks.count;
     let mut j: usize = 0;
     while j < count {
         let n = blocks.numbers[j];
-        if !blocks::sealed(base, n) {
+        if !blocks::sealed(base, n, kind) {
             return false;
         }
         j += 1;
@@ -156,16 +158,16 @@ fn all_sealed(base: &[u8], blocks: Blocks) -> bool
 }
 
 // Sets their checks.
-fn seal_all(base: &mut [u8], blocks: Blocks)
+fn seal_all(base: &mut [u8], blocks: Blocks, kind: Check)
     requires { ⌜ blocks .count ≤ 11 ⌝ }
     requires { ⌜ AllWithin (length (now base)) (numbersOf blocks) ⌝ }
-    ensures { λ _. ⌜ now (base .exit) ≡ sealEach (now (base .entry)) (numbersOf blocks) ⌝ }
+    ensures { λ _. ⌜ now (base .exit) ≡ sealEach kind (now (base .entry)) (numbersOf blocks) ⌝ }
 {
     let count = blocks.count;
     let mut k: usize = 0;
     while k < count {
         let n = blocks.numbers[k];
-        blocks::seal(base, n);
+        blocks::seal(base, n, kind);
         k += 1;
     }
 }
@@ -294,13 +296,14 @@ pub fn commit(base: &mut [u8], e: Entry, area: &[u8], p: Plan) -> bool
     requires { ⌜ Fields e ⌝ }
     requires { ⌜ PlanOk (length (now base)) e p ⌝ }
     requires { ⌜ AreaOk (p .head) e (now area) ⌝ }
-    ensures { λ r. ⌜ r ≡ blocksSealed (now (base .entry)) (planStores (now (base .entry)) e (now (area .entry)) p) ⌝ }
-    ensures { λ _. ⌜ now (base .exit) ≡ cond (blocksSealed (now (base .entry)) (planStores (now (base .entry)) e (now (area .entry)) p)) (committed (now (base .entry)) (planStores (now (base .entry)) e (now (area .entry)) p)) (now (base .entry)) ⌝ }
+    ensures { λ r. ⌜ r ≡ blocksSealed (checkBy (e .edition)) (now (base .entry)) (planStores (now (base .entry)) e (now (area .entry)) p) ⌝ }
+    ensures { λ _. ⌜ now (base .exit) ≡ cond (blocksSealed (checkBy (e .edition)) (now (base .entry)) (planStores (now (base .entry)) e (now (area .entry)) p)) (committed (checkBy (e .edition)) (now (base .entry)) (planStores (now (base .entry)) e (now (area .entry)) p)) (now (base .entry)) ⌝ }
 {
+    let kind = Check::of(e.edition);
     let blocks = touched(e, p);
-    if all_sealed(base, blocks) {
+    if all_sealed(base, blocks, kind) {
         store(base, e, area, p);
-        seal_all(base, blocks);
+        seal_all(base, blocks, kind);
         return true;
     }
     false

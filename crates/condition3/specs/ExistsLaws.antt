@@ -26,19 +26,20 @@ use Rattle.masters.specs.Find.{find, isMissing, isDamaged}
 use Rattle.masters.specs.FindLaws.{find-at}
 use Rattle.chains.specs.Members.{In}
 use Rattle.sound.specs.KeyLaws.{Live}
-use Rattle.calls.specs.Call.{Call, callOf}
+use Rattle.calls.specs.Call.{Call}
 use Rattle.schema.specs.Naming.{setNamed}
-use Rattle.calls.specs.Ladder.{foundTests}
+use Rattle.calls.specs.Ladder.Rung.{MasterIntact, MasterThere}
+use Rattle.calls.specs.OutcomeLaws.{passed}
 use Rattle.calls.specs.LadderLaws.{Passes}
 use Rattle.calls.specs.Outcome.{done, outcome}
 use Rattle.kept_state.specs.Rows.{PathRows}
 use Rattle.master_steps.specs.FindLaws.{find-live}
 use Rattle.point_steps.specs.RowFacts.{row-master}
 use Rattle.condition3.specs.Plain.{setIn, entryIn}
-use Rattle.condition3.specs.Readings.{Place, setNo, entryNamed, pathNo, IsPlace, Exists, noPathName}
+use Rattle.condition3.specs.Readings.{Fixed, schemaIn, Lent, under, readerOf, Place, setNo, entryNamed, pathNo, IsPlace, readm, Exists}
 use Rattle.condition3.specs.PlaceLaws.{place-path}
 use Rattle.condition3.specs.Shown.{Ready}
-use Rattle.condition3.specs.Outcomes.{outcome-done, done-rungs}
+use Rattle.condition3.specs.Outcomes.{foundRungs, outcome-done, done-rungs}
 use Rattle.condition3.specs.ReadTests.{masterScene, master-scene, Granted, readm-passes}
 
 -- ---- a place is a path of the schema
@@ -88,38 +89,44 @@ at-found Damaged d m = absurd (never-both true refl d)
 -- a READM that is done has found a master
 found-by : (c : Call) → c .operation ≡ text "READM" → outcome c .status ≡ Done → (m : ℕ) × Live (c .base) (entryIn c) m × (masterKey (c .base) (entryIn c) m ≡ c .key)
 found-by c o h =
-    let tests : Passes (foundTests (masterScene c) c) = rw (master-scene c o) at (done-rungs c h .found) in
-    let q = at-found (find (c .base) (entryIn c) (c .key)) (tests .0) (tests .1 .0) in
+    let tests : Passes (masterScene c) c foundRungs = rw (master-scene c o) at (done-rungs c h .found) in
+    let q = at-found (find (c .base) (entryIn c) (c .key)) (passed (masterScene c) c foundRungs MasterIntact refl tests) (passed (masterScene c) c foundRungs MasterThere refl tests) in
     let z = find-at (c .base) (entryIn c) (c .key) (q .0) (q .1) in
     (q .0 .0, (z .in-set, z .live), z .keyed)
 
-module _ (s b : List ℕ) (rows : ℕ → ℕ → List ℕ → List ℕ) (g : Ready s b rows) (w : Place) (p : IsPlace (schemaOf s) w) (key : List ℕ) where
-  -- the schema, and the set of the place's masters
+module _ (f : Fixed) (d : Lent) (rows : ℕ → ℕ → List ℕ → List ℕ) (g : Ready (f .schema) (d .base) rows) (w : Place) (p : IsPlace (schemaIn f) w) (key : List ℕ) where
+  -- the schema, the data base, and the set of the place's masters
+  abbrev s : List ℕ
+  s = f .schema
+
   abbrev t : Schema
-  t = schemaOf s
+  t = schemaIn f
+
+  abbrev b : List ℕ
+  b = d .base
 
   abbrev x : Entry
   x = mastersOn t (entryNamed t w) (pathNo t w)
 
-  pub exists-says : Exists outcome s b w key → (m : ℕ) × Live b x m × (masterKey b x m ≡ key)
-  exists-says h = rw (p .masters) at (found-by (callOf (text "READM") (w .masters) 0 noPathName key (w .master-area) s b) refl h)
+  pub exists-says : Exists (readerOf outcome f d) w key → (m : ℕ) × Live b x m × (masterKey b x m ≡ key)
+  exists-says h = rw (p .masters) at (found-by (under f d (readm w key)) refl h)
 
-  exists-holds : (m : ℕ) → Live b x m → masterKey b x m ≡ key → Exists outcome s b w key
+  exists-holds : (m : ℕ) → Live b x m → masterKey b x m ≡ key → Exists (readerOf outcome f d) w key
   unfolding done
   exists-holds m l k =
-      let c = callOf (text "READM") (w .masters) 0 noPathName key (w .master-area) s b in
+      let c = under f d (readm w key) in
       let ok = g .world .ok in
       let n : setNamed t (w .masters) < t .masters = rw (p .masters) (place-master t ok w p) in
       let kind : isMaster (entryIn c) ≡ true = is-master t ok (setNamed t (w .masters)) n in
-      let f : Granted (entryIn c) m c =
+      let z : Granted (entryIn c) m c =
       granted c rows (setNamed t (w .masters)) m g n (rw (p .masters) l) (rw (p .masters) k) (omega arith) (p .master-area) in
-      rw (outcome-done c (rw (master-scene c refl) (readm-passes c m f kind))) refl
+      rw (outcome-done c (rw (master-scene c refl) (readm-passes c m z kind))) refl
 
   -- a record in the row is owned by a master of that key
-  pub row-or-exists : (rows (setNo t w) (pathNo t w) key ≡ []) ⊎ Exists outcome s b w key
+  pub row-or-exists : (rows (setNo t w) (pathNo t w) key ≡ []) ⊎ Exists (readerOf outcome f d) w key
   row-or-exists =
       by (rows (setNo t w) (pathNo t w) key) (row-master t b (setNo t w) (pathNo t w) (rows (setNo t w) (pathNo t w)) key (place-rows s b rows g w p))
     where
-      by : (rs : List ℕ) → ((r : ℕ) → In r rs → (m : ℕ) × Live b x m × (masterKey b x m ≡ key)) → (rs ≡ []) ⊎ Exists outcome s b w key
+      by : (rs : List ℕ) → ((r : ℕ) → In r rs → (m : ℕ) × Live b x m × (masterKey b x m ≡ key)) → (rs ≡ []) ⊎ Exists (readerOf outcome f d) w key
       by [] h = inl refl
       by (r ∷ rs) h = let o = h r (inl refl) in inr (exists-holds (o .0) (o .1) (o .2))

@@ -3,14 +3,15 @@
 use Prim.Native.Nat.{ℕ}
 use mathlib.Core.Path.{_≡_, refl}
 use mathlib.Core.Logic.{_≢_}
-use mathlib.Core.List.{List, _++_}
+use mathlib.Core.List.{List, [], _∷_, _++_}
 use Rattle.terms.specs.declared.Status.the-variants.{Done}
 use Rattle.schema.specs.declared.Entry.{Entry}
 use Rattle.records.specs.Areas.{areaOf}
 use Rattle.calls.specs.Call.{Call, Outcome}
 use Rattle.calls.specs.Scene.{Scene, sceneOf}
 use Rattle.calls.specs.Reply.{orEnd}
-use Rattle.calls.specs.Ladder.{generalTests, parameterTests, foundTests, otherMasterTests, finalTests, ladder}
+use Rattle.calls.specs.Ladder.{Rung, generalRungs, placeRungs, formRungs, seekRungs, otherRungs, finalRungs, ladder}
+use Rattle.calls.specs.Ladder.Rung.{StoredKeys}
 use Rattle.calls.specs.LadderLaws.{Passes, refusal-done, passes-append}
 use Rattle.calls.specs.Outcome.{done, outcomeIn, outcome}
 use Rattle.calls.specs.OutcomeLaws.{done-passed}
@@ -18,39 +19,48 @@ use Rattle.condition3.specs.Calm.{passes-left, passes-right}
 
 -- ---- the groups of the ladder
 
-pub record AllPassed (x : Scene) (c : Call) : Type 0 where
-  pub general : Passes (generalTests x c)
-  pub parameters : Passes (parameterTests x c)
-  pub found : Passes (foundTests x c)
-  pub others : Passes (otherMasterTests x c)
-  pub final : Passes (finalTests x c)
+-- set, path and forms; the named master, the referenced record and its stored keys
+abbrev pub parameterRungs : List Rung
+parameterRungs = placeRungs ++ formRungs
 
-pub climbed : (x : Scene) (c : Call) → AllPassed x c → Passes (ladder x c)
+abbrev pub foundRungs : List Rung
+foundRungs = seekRungs ++ (StoredKeys ∷ [])
+
+pub record AllPassed (x : Scene) (c : Call) : Type 0 where
+  pub general : Passes x c generalRungs
+  pub parameters : Passes x c parameterRungs
+  pub found : Passes x c foundRungs
+  pub others : Passes x c (otherRungs (x .entry .count))
+  pub final : Passes x c finalRungs
+
+pub climbed : (x : Scene) (c : Call) → AllPassed x c → Passes x c (ladder x)
 unfolding ladder
 climbed x c r =
-    passes-append (generalTests x c) (parameterTests x c ++ (foundTests x c ++ (otherMasterTests x c ++ finalTests x c))) (r .general)
-    (passes-append (parameterTests x c) (foundTests x c ++ (otherMasterTests x c ++ finalTests x c)) (r .parameters)
-    (passes-append (foundTests x c) (otherMasterTests x c ++ finalTests x c) (r .found) (passes-append (otherMasterTests x c) (finalTests x c) (r .others) (r .final))))
+    let n = x .entry .count in
+    passes-append x c generalRungs (parameterRungs ++ (foundRungs ++ (otherRungs n ++ finalRungs))) (r .general)
+    (passes-append x c parameterRungs (foundRungs ++ (otherRungs n ++ finalRungs)) (r .parameters)
+    (passes-append x c foundRungs (otherRungs n ++ finalRungs) (r .found) (passes-append x c (otherRungs n) finalRungs (r .others) (r .final))))
 
-rungs-of : (x : Scene) (c : Call) → Passes (ladder x c) → AllPassed x c
+rungs-of : (x : Scene) (c : Call) → Passes x c (ladder x) → AllPassed x c
 unfolding ladder
 rungs-of x c h =
-    let p = passes-right (generalTests x c) (parameterTests x c ++ (foundTests x c ++ (otherMasterTests x c ++ finalTests x c))) h in
-    let f = passes-right (parameterTests x c) (foundTests x c ++ (otherMasterTests x c ++ finalTests x c)) p in
-    let o = passes-right (foundTests x c) (otherMasterTests x c ++ finalTests x c) f in
+    let n = x .entry .count in
+    let p = passes-right x c generalRungs (parameterRungs ++ (foundRungs ++ (otherRungs n ++ finalRungs))) h in
+    let f = passes-right x c parameterRungs (foundRungs ++ (otherRungs n ++ finalRungs)) p in
+    let o = passes-right x c foundRungs (otherRungs n ++ finalRungs) f in
     record {
-      general = passes-left (generalTests x c) (parameterTests x c ++ (foundTests x c ++ (otherMasterTests x c ++ finalTests x c))) h;
-      parameters = passes-left (parameterTests x c) (foundTests x c ++ (otherMasterTests x c ++ finalTests x c)) p;
-      found = passes-left (foundTests x c) (otherMasterTests x c ++ finalTests x c) f;
-      others = passes-left (otherMasterTests x c) (finalTests x c) o;
-      final = passes-right (otherMasterTests x c) (finalTests x c) o;
+      general = passes-left x c generalRungs (parameterRungs ++ (foundRungs ++ (otherRungs n ++ finalRungs))) h;
+      parameters = passes-left x c parameterRungs (foundRungs ++ (otherRungs n ++ finalRungs)) p;
+      found = passes-left x c foundRungs (otherRungs n ++ finalRungs) f;
+      others = passes-left x c (otherRungs n) finalRungs o;
+      final = passes-right x c (otherRungs n) finalRungs o;
     }
 
 -- ---- outcomes
 
-pub outcome-done : (c : Call) → Passes (ladder (sceneOf c) c) → outcome c ≡ done (sceneOf c) c
+pub outcome-done : (c : Call) → Passes (sceneOf c) c (ladder (sceneOf c)) → outcome c ≡ done (sceneOf c) c
 unfolding outcome outcomeIn
-outcome-done c h = rw (refusal-done (ladder (sceneOf c) c) h) refl
+outcome-done c h = rw (refusal-done (sceneOf c) c (ladder (sceneOf c)) h) refl
 
 pub done-is : (c : Call) → outcome c .status ≡ Done → outcome c ≡ done (sceneOf c) c
 done-is c h = outcome-done c (done-passed c h)

@@ -9,12 +9,12 @@ use Rattle.octets.specs.Octets.{sameBytes}
 use Rattle.terms.specs.declared.Status.{Status}
 use Rattle.terms.specs.Status.{statusNumber}
 use Rattle.terms.specs.declared.Operation.{Operation}
-use Rattle.terms.specs.declared.Operation.the-variants.{Formt, Sinon, AddM, DelM, Readm, Writm, Rqloc, Rdnxt, Readv, Readr, Readd, Writv, Addvc, Addvb, Addva, Delvd, Unknown}
+use Rattle.terms.specs.declared.Operation.the-variants.{Formt, Writv, Addvc, Addvb, Addva, Delvd}
 use Rattle.terms.specs.Operation.{operationOf}
 use Rattle.schema.specs.declared.Entry.{Entry}
 use Rattle.schema.specs.Decode.{entryOf, schemaOf}
 use Rattle.records.specs.Areas.{areaKeyOn}
-use Rattle.calls.specs.Call.{Call}
+use Rattle.calls.specs.Call.{Call, chosen}
 use Rattle.schema.specs.Naming.{setNamed, pathNamed}
 
 -- a point of a chain: the number of its record, and its area
@@ -41,10 +41,10 @@ unfoldable pub takenOut : ℕ → List Point → List Point
 takenOut n [] = []
 takenOut n (y ∷ ys) = cond (eqb (y .number) n) (takenOut n ys) (y ∷ takenOut n ys)
 
--- the record n has this area now (WRITV is refused where a key differs, so only the D bytes are new)
-unfoldable pub rewritten : ℕ → List ℕ → List Point → List Point
-rewritten n area [] = []
-rewritten n area (y ∷ ys) = cond (eqb (y .number) n) (record { number = n; area = area }) y ∷ rewritten n area ys
+-- of the area of the record n is made what f says
+unfoldable pub rewritten : ℕ → (List ℕ → List ℕ) → List Point → List Point
+rewritten n f [] = []
+rewritten n f (y ∷ ys) = cond (eqb (y .number) n) (record { number = n; area = f (y .area) }) y ∷ rewritten n f ys
 
 -- ---- what the call names
 
@@ -57,13 +57,23 @@ entryIn c = entryOf (schemaOf (c .schema)) (setIn c)
 abbrev pub pathIn : Call → ℕ
 pathIn c = pathNamed (schemaOf (c .schema)) (entryIn c) (c .path)
 
+-- ---- areas
+
+-- the whole area that an add brings
+abbrev pub broughtBy : Call → List ℕ
+broughtBy c = c .area
+
+-- what WRITV makes of a point's area: the call's (it is refused where a key differs, so only the D bytes are new)
+abbrev pub overwrittenBy : Call → List ℕ → List ℕ
+overwrittenBy c old = c .area
+
 -- ---- the step of each call that is done; r is the reference that it returned
 
 -- a new point on every path of its set, in the list of its key there: `place` puts it into the named path's list, at the end of the others
 abbrev pub added : Call → ℕ → (Point → List Point → List Point) → Lists → Lists
 added c r place l i j key =
-    cond (eqb i (setIn c) && sameBytes key (areaKeyOn (entryIn c) (c .area) j))
-    (cond (eqb j (pathIn c)) (place (record { number = r; area = c .area }) (l i j key)) (l i j key ++ (record { number = r; area = c .area } ∷ [])))
+    cond (eqb i (setIn c) && sameBytes key (areaKeyOn (entryIn c) (broughtBy c) j))
+    (cond (eqb j (pathIn c)) (place (record { number = r; area = broughtBy c }) (l i j key)) (l i j key ++ (record { number = r; area = broughtBy c } ∷ [])))
     (l i j key)
 
 abbrev pub atEnd : Point → List Point → List Point
@@ -74,23 +84,16 @@ abbrev pub inSetOf : Call → (List Point → List Point) → Lists → Lists
 inSetOf c f l i j key = cond (eqb i (setIn c)) (f (l i j key)) (l i j key)
 
 abbrev pub stepBy : Operation → Call → ℕ → Lists → Lists
-stepBy Formt c r l = λ i j key. []
-stepBy Addvc c r l = added c r atEnd l
-stepBy Addvb c r l = added c r (before (c .reference)) l
-stepBy Addva c r l = added c r (behind (c .reference)) l
-stepBy Delvd c r l = inSetOf c (takenOut (c .reference)) l
-stepBy Writv c r l = inSetOf c (rewritten (c .reference) (c .area)) l
-stepBy Sinon c r l = l
-stepBy AddM c r l = l
-stepBy DelM c r l = l
-stepBy Readm c r l = l
-stepBy Writm c r l = l
-stepBy Rqloc c r l = l
-stepBy Rdnxt c r l = l
-stepBy Readv c r l = l
-stepBy Readr c r l = l
-stepBy Readd c r l = l
-stepBy Unknown c r l = l
+stepBy o c r l =
+    chosen o
+    ((Formt ∷ [], λ i j key. [])
+    ∷ (Addvc ∷ [], added c r atEnd l)
+    ∷ (Addvb ∷ [], added c r (before (c .reference)) l)
+    ∷ (Addva ∷ [], added c r (behind (c .reference)) l)
+    ∷ (Delvd ∷ [], inSetOf c (takenOut (c .reference)) l)
+    ∷ (Writv ∷ [], inSetOf c (rewritten (c .reference) (overwrittenBy c)) l)
+    ∷ [])
+    l
 
 -- the step of a call: a refused one changes nothing
 unfoldable pub step : Call → Status → ℕ → Lists → Lists

@@ -8,7 +8,6 @@ use native.Mathlib.Omega.{arith}
 use lib.Dec.{eqb}
 use borrow.Author.Tests.{not-false}
 use Rattle.terms.specs.declared.Operation.{Operation}
-use Rattle.terms.specs.declared.Operation.the-variants.{Formt, Sinon, AddM, DelM, Readm, Writm, Readv, Readr}
 use Rattle.terms.specs.Operation.{operationOf}
 use Rattle.schema.specs.declared.Entry.{Entry}
 use Rattle.schema.specs.declared.Schema.{Schema}
@@ -23,9 +22,12 @@ use Rattle.points.specs.Points.{findOn}
 use Rattle.chains.specs.Members.{In, in-left, in-right}
 use Rattle.chains.specs.Segments.{lastOr, headOr, at-ends}
 use Rattle.sound.specs.KeyLaws.{Live}
-use Rattle.calls.specs.Call.{Call, oneOf, variableCalls}
+use Rattle.calls.specs.Call.{Call, oneOf, variableCalls, wholeCalls}
 use Rattle.calls.specs.Scene.{Scene, sceneUnder}
-use Rattle.calls.specs.Ladder.{isLink, parameterTests, foundTests}
+use Rattle.calls.specs.Ladder.{isLink, needers, finders, chainReads}
+use Rattle.calls.specs.Ladder.Rung.{ReadForm, ReadPoint}
+use Rattle.calls.specs.OutcomeLaws.{passed}
+use Rattle.condition3.specs.Outcomes.{parameterRungs, foundRungs}
 use Rattle.calls.specs.LadderLaws.{Passes}
 use Rattle.calls.specs.Reply.{masterIn, forward, backward}
 use Rattle.schema.specs.Naming.{linkOf}
@@ -97,9 +99,9 @@ module _ (c : Call) (rows : ℕ → ℕ → List ℕ → List ℕ) (g : Ready (c
   abbrev linked : Bool
   linked = eqb (c .reference) (linkOf (pathOf e j))
 
-  module _ (p : Passes (parameterTests x c)) (f : Passes (foundTests x c)) (q : oneOf o (Readv ∷ Readr ∷ []) ≡ true)
-      (fs : oneOf o (Formt ∷ Sinon ∷ []) ≡ false) (v : oneOf o variableCalls ≡ true) (fi : oneOf o (AddM ∷ DelM ∷ Readm ∷ Writm ∷ variableCalls) ≡ true)
-      (mi : oneOf o (DelM ∷ Readm ∷ Writm ∷ variableCalls) ≡ true) where
+  module _ (p : Passes x c parameterRungs) (f : Passes x c foundRungs) (q : oneOf o chainReads ≡ true)
+      (fs : oneOf o wholeCalls ≡ false) (v : oneOf o variableCalls ≡ true) (fi : oneOf o finders ≡ true)
+      (mi : oneOf o needers ≡ true) where
     path : IsPathOf t n j
     path = on-points t (g .world .ok) c p fs v .0
 
@@ -116,13 +118,13 @@ module _ (c : Call) (rows : ℕ → ℕ → List ℕ → List ℕ) (g : Ready (c
     -- a number refers to a record of the chain
     number : linked ≡ false → InSet e (c .reference)
     unfolding sceneUnder
-    number z = inSet-true e (c .reference) (either linked (inSet e (c .reference)) (asked (oneOf o (Readv ∷ Readr ∷ [])) _ (p .1 .1 .1 .1 .1 .1 .1 .1 .0) q) z)
+    number z = inSet-true e (c .reference) (either linked (inSet e (c .reference)) (asked (oneOf o chainReads) _ (passed x c parameterRungs ReadForm refl p) q) z)
 
     mine : linked ≡ false → Mine t b n j (c .key) (c .reference)
     unfolding sceneUnder
     mine z =
         let a = point-told b e (pathOf e j) (c .key) (c .reference)
-        (both-fail linked (isPointOf b e (pathOf e j) (c .key) (c .reference)) (asked (oneOf o (Readv ∷ Readr ∷ [])) _ (f .1 .1 .1 .0) q) z) in
+        (both-fail linked (isPointOf b e (pathOf e j) (c .key) (c .reference)) (asked (oneOf o chainReads) _ (passed x c foundRungs ReadPoint refl f) q) z) in
         ((number z, a .0), a .1)
 
     ends : (firstOn b masters m (pathOf e j) ≡ headOr 0 (rows n j (c .key))) × (lastOn b masters m (pathOf e j) ≡ lastOr 0 (rows n j (c .key)))

@@ -10,18 +10,18 @@ use borrow.Author.Tests.{eq-eqb, ne-eqb, le-leb}
 use Rattle.octets.specs.RunLaws.{eq-sameBytes}
 use Rattle.schema.specs.declared.Entry.{Entry}
 use Rattle.schema.specs.declared.Schema.{Schema}
-use Rattle.schema.specs.Decode.{pathOf, schemaOf, mastersOn}
+use Rattle.schema.specs.Decode.{pathOf, mastersOn}
 use Rattle.records.specs.Records.{masterKey}
 use Rattle.chains.specs.Members.{All, In}
 use Rattle.chains.specs.Segments.{Run, seg-run, seg-reverse, headed-at}
 use Rattle.sound.specs.KeyLaws.{Live}
-use Rattle.calls.specs.Call.{Call, callOf}
+use Rattle.calls.specs.Call.{Call}
 use Rattle.calls.specs.Reply.{givenBy, given, referenceAfter, areaAfter}
 use Rattle.calls.specs.Outcome.{done, outcome}
 use Rattle.kept_state.specs.Rows.{Mine, nextNode, priorNode}
 use Rattle.point_steps.specs.RowFacts.{row-chain}
 use Rattle.point_steps.specs.Neighbours.{read-quiet}
-use Rattle.condition3.specs.Readings.{Reads, Place, setNo, entryNamed, pathNo, IsPlace, Exists, readv, readr, link}
+use Rattle.condition3.specs.Readings.{requestOf, Fixed, schemaIn, Lent, under, readerOf, Reads, Place, setNo, entryNamed, pathNo, IsPlace, Exists, readv, readr, link}
 use Rattle.condition3.specs.Shown.{shown, Ready}
 use Rattle.condition3.specs.Outcomes.{outcome-done, Gives}
 use Rattle.condition3.specs.ReadTests.{readOf, readText, chainScene, chain-scene, Granted, Followed, read-passes}
@@ -38,9 +38,15 @@ unfolding done referenceAfter areaAfter given
 gives true c n q = record { status = refl; reference = rw q refl; area = λ d. rw (q, ne-eqb n 0 d) refl }
 gives false c n q = record { status = refl; reference = rw q refl; area = λ d. rw (q, ne-eqb n 0 d) refl }
 
-module _ (s b : List ℕ) (rows : ℕ → ℕ → List ℕ → List ℕ) (g : Ready s b rows) (w : Place) (p : IsPlace (schemaOf s) w) (key : List ℕ) where
+module _ (f : Fixed) (d : Lent) (rows : ℕ → ℕ → List ℕ → List ℕ) (g : Ready (f .schema) (d .base) rows) (w : Place) (p : IsPlace (schemaIn f) w) (key : List ℕ) where
+  abbrev s : List ℕ
+  s = f .schema
+
   abbrev t : Schema
-  t = schemaOf s
+  t = schemaIn f
+
+  abbrev b : List ℕ
+  b = d .base
 
   abbrev i : ℕ
   i = setNo t w
@@ -59,19 +65,19 @@ module _ (s b : List ℕ) (rows : ℕ → ℕ → List ℕ → List ℕ) (g : Re
 
   -- the call with the reference r
   abbrev call : Bool → ℕ → Call
-  call back r = callOf (readText back) (w .set) r (w .path) key (w .point-area) s b
+  call back r = under f d (requestOf (readText back) (w .set) r (w .path) key (w .point-area))
 
   -- the number of a record, which is low: it is neither LKxx nor END.
   low : (r : ℕ) → Live b e r → (1 ≤ r) × (r ≤ 65535)
   low r l = (l .0 .0, omega (arith, g .world .ok .set i (p .set) .many))
 
   -- the reference may be LKxx, or the number of a record of the row
-  at-link : (back : Bool) → Followed true (call back (link (schemaOf s) w))
+  at-link : (back : Bool) → Followed true (call back (link t w))
   at-link back =
       record {
         variable = place-variable t (g .world .ok) w p;
         path = p .path;
-        link = eq-eqb (link (schemaOf s) w) (link (schemaOf s) w) refl;
+        link = eq-eqb (link t w) (link t w) refl;
         form = refl;
         point = refl;
       }
@@ -81,7 +87,7 @@ module _ (s b : List ℕ) (rows : ℕ → ℕ → List ℕ → List ℕ) (g : Re
       record {
         variable = place-variable t (g .world .ok) w p;
         path = p .path;
-        link = ne-eqb r (link (schemaOf s) w) (λ q. omega (arith, low r (h .0)));
+        link = ne-eqb r (link t w) (λ q. omega (arith, low r (h .0)));
         form = rw (le-leb 1 r (h .0 .0 .0), le-leb r (e .records) (h .0 .0 .1)) refl;
         point = rw (h .0 .1, eq-sameBytes _ _ (h .1)) refl;
       }
@@ -97,7 +103,7 @@ module _ (s b : List ℕ) (rows : ℕ → ℕ → List ℕ → List ℕ) (g : Re
     grants back r = granted (call back r) rows (pathOf e j .master .0) m g (place-master t (g .world .ok) w p) l k (p .set) (p .point-area)
 
     -- it comes to what the pointer leads to
-    given-link : (back : Bool) → givenBy (readOf back) (chainScene back (call back (link (schemaOf s) w))) (call back (link (schemaOf s) w)) ≡ lead back 0
+    given-link : (back : Bool) → givenBy (readOf back) (chainScene back (call back (link t w))) (call back (link t w)) ≡ lead back 0
     given-link true = rw (at-link true .link, grants true 0 .found) refl
     given-link false = rw (at-link false .link, grants false 0 .found) refl
 
@@ -125,15 +131,15 @@ module _ (s b : List ℕ) (rows : ℕ → ℕ → List ℕ → List ℕ) (g : Re
         let not0 : y ≢ 0 = λ k. omega arith in
         (z .status, rw (ne-eqb y 0 not0) at (z .reference), z .area not0, omega arith, reads back false y y ys (at-record back y (h .0)) (given-record back y (h .0)) (run .1) (h .1))
 
-  pub reads-forward : Exists outcome s b w key → Reads (readv outcome s b w key) (link (schemaOf s) w) (shown b e (rows i j key))
+  pub reads-forward : Exists (readerOf outcome f d) w key → Reads (readv (readerOf outcome f d) w key) (link t w) (shown b e (rows i j key))
   reads-forward h =
-      let o = exists-says s b rows g w p key h in
-      reads (o .0) (o .1) (o .2) false true (link (schemaOf s) w) 0 (rows i j key) (at-link false) (given-link (o .0) (o .1) (o .2) false)
+      let o = exists-says f d rows g w p key h in
+      reads (o .0) (o .1) (o .2) false true (link t w) 0 (rows i j key) (at-link false) (given-link (o .0) (o .1) (o .2) false)
       (seg-run _ _ 0 (rows i j key) (row-chain t b i j (rows i j) key (place-rows s b rows g w p) (o .0) (o .1) (o .2))) (place-rows s b rows g w p .mine key)
 
-  pub reads-backward : Exists outcome s b w key → Reads (readr outcome s b w key) (link (schemaOf s) w) (shown b e (reverse (rows i j key)))
+  pub reads-backward : Exists (readerOf outcome f d) w key → Reads (readr (readerOf outcome f d) w key) (link t w) (shown b e (reverse (rows i j key)))
   reads-backward h =
-      let o = exists-says s b rows g w p key h in
-      reads (o .0) (o .1) (o .2) true true (link (schemaOf s) w) 0 (reverse (rows i j key)) (at-link true) (given-link (o .0) (o .1) (o .2) true)
+      let o = exists-says f d rows g w p key h in
+      reads (o .0) (o .1) (o .2) true true (link t w) 0 (reverse (rows i j key)) (at-link true) (given-link (o .0) (o .1) (o .2) true)
       (seg-run _ _ 0 (reverse (rows i j key)) (seg-reverse _ _ 0 (rows i j key) 0 (row-chain t b i j (rows i j) key (place-rows s b rows g w p) (o .0) (o .1) (o .2))))
       (all-turned mine (rows i j key) [] (place-rows s b rows g w p .mine key) tt)

@@ -26,10 +26,10 @@ use Rattle.calls.specs.Call.{Call}
 use Rattle.calls.specs.Scene.{Scene, sceneOn, sceneUnder, sceneOf}
 use Rattle.calls.specs.Reply.{givenBy, storesOf}
 use Rattle.schema.specs.Naming.{linkOf}
-use Rattle.calls.specs.Ladder.{wrongKind, generalTests, parameterTests, foundTests, ladder}
-use Rattle.calls.specs.LadderLaws.{Passes, others-pass}
+use Rattle.calls.specs.Ladder.{wrongKind, Rung, generalRungs, finalRungs, ladder}
+use Rattle.calls.specs.LadderLaws.{Passes, others-pass, askedOf, AllHold, holds-passes}
 use Rattle.condition3.specs.Plain.{setIn, entryIn, pathIn}
-use Rattle.condition3.specs.Outcomes.{climbed}
+use Rattle.condition3.specs.Outcomes.{parameterRungs, foundRungs, climbed}
 
 -- ---- the three operations
 
@@ -102,48 +102,54 @@ pub record Followed (linked : Bool) (c : Call) : Type 0 where
   pub form : not (linked || inSet (entryIn c) (c .reference)) ≡ false
   pub point : (not linked && not (isPointOf (c .base) (entryIn c) (pathFor c) (c .key) (c .reference))) ≡ false
 
+-- a test that an operation has not does not concern it
+has-read : (c : Call) (back : Bool) (rs : List Rung) → AllHold (chainScene back c) c (askedOf (readOf back) rs) → Passes (chainScene back c) c rs
+has-read c back = holds-passes (chainScene back c) c (readOf back) refl
+
 module _ (c : Call) (m : ℕ) where
   -- the first three tests are the same for all
-  general : (x : Entry) → Granted x m c → Passes (generalTests (masterScene c) c)
-  general x f = (rw (f .rules) refl, (equal-passes _ _ (f .sized), (refl, tt)))
+  general : (x : Entry) → Granted x m c → Passes (masterScene c) c generalRungs
+  general x f = holds-passes (masterScene c) c Readm refl generalRungs (rw (f .rules) refl, (equal-passes _ _ (f .sized), tt))
 
-  pub readm-passes : Granted (entryIn c) m c → isMaster (entryIn c) ≡ true → Passes (ladder (masterScene c) c)
+  pub readm-passes : Granted (entryIn c) m c → isMaster (entryIn c) ≡ true → Passes (masterScene c) c (ladder (masterScene c))
   unfolding wrongKind storesOf blocksSealed
   readm-passes f k =
+      let has : (rs : List Rung) → AllHold (masterScene c) c (askedOf Readm rs) → Passes (masterScene c) c rs = holds-passes (masterScene c) c Readm refl in
       climbed (masterScene c) c (record {
         general = general (entryIn c) f;
-        parameters = (below-passes _ _ (f .known), (rw k refl, (refl, (equal-passes _ _ (f .area), (equal-passes _ _ (f .keyed), (f .told, (refl, (refl, (refl, (refl, (refl, (refl, tt))))))))))));
-        found = (rw (f .found) refl, (rw (f .found) refl, (refl, (refl, (refl, (refl, tt))))));
-        others = others-pass (masterScene c) c refl refl;
-        final = (refl, (refl, (refl, (refl, (refl, (refl, (refl, (refl, (refl, (refl, (refl, tt)))))))))));
+        parameters = has parameterRungs (below-passes _ _ (f .known), (rw k refl, (equal-passes _ _ (f .area), (equal-passes _ _ (f .keyed), (f .told, tt)))));
+        found = has foundRungs (rw (f .found) refl, (rw (f .found) refl, tt));
+        others = others-pass (masterScene c) c refl refl (entryIn c .count);
+        final = has finalRungs (refl, tt);
       })
 
   -- up to the final ones the tests of READR are those of READV
   module _ (linked : Bool) (f : Granted (mastersFor c) m c) (h : Followed linked c) where
-    parameters : Passes (parameterTests (chainScene false c) c)
+    parameters : Passes (chainScene false c) c parameterRungs
     unfolding wrongKind
     parameters =
-        (below-passes _ _ (f .known), (h .variable, (below-passes _ _ (h .path), (equal-passes _ _ (f .area), (equal-passes _ _ (f .keyed), (f .told, (refl, (refl, (rw (h .link) (h .form), (refl, (refl, (refl, tt))))))))))))
+        has-read c false parameterRungs
+        (below-passes _ _ (f .known), (h .variable, (below-passes _ _ (h .path), (equal-passes _ _ (f .area), (equal-passes _ _ (f .keyed), (f .told, (rw (h .link) (h .form), tt)))))))
 
-    sought : Passes (foundTests (chainScene false c) c)
-    sought = (rw (f .found) refl, (rw (f .found) refl, (refl, (rw (h .link) (h .point), (refl, (refl, tt))))))
+    sought : Passes (chainScene false c) c foundRungs
+    sought = has-read c false foundRungs (rw (f .found) refl, (rw (f .found) refl, (rw (h .link) (h .point), tt)))
 
     pub read-passes : (back : Bool) (n : ℕ) → givenBy (readOf back) (chainScene back c) c ≡ n
-        → readDamaged (c .base) (entryIn c) (pathFor c) (mastersFor c) m (c .key) linked n ≡ false → Passes (ladder (chainScene back c) c)
+        → readDamaged (c .base) (entryIn c) (pathFor c) (mastersFor c) m (c .key) linked n ≡ false → Passes (chainScene back c) c (ladder (chainScene back c))
     unfolding wrongKind storesOf blocksSealed
     read-passes true n q d =
         climbed (chainScene true c) c (record {
           general = general (mastersFor c) f;
           parameters = parameters;
           found = sought;
-          others = others-pass (chainScene true c) c refl refl;
-          final = (refl, (refl, (refl, (refl, (refl, (rw (q, f .found, h .link) d, (refl, (refl, (refl, (refl, (refl, tt)))))))))));
+          others = others-pass (chainScene true c) c refl refl (entryIn c .count);
+          final = has-read c true finalRungs (rw (q, f .found, h .link) d, (refl, tt));
         })
     read-passes false n q d =
         climbed (chainScene false c) c (record {
           general = general (mastersFor c) f;
           parameters = parameters;
           found = sought;
-          others = others-pass (chainScene false c) c refl refl;
-          final = (refl, (refl, (refl, (refl, (rw (q, f .found, h .link) d, (refl, (refl, (refl, (refl, (refl, (refl, tt)))))))))));
+          others = others-pass (chainScene false c) c refl refl (entryIn c .count);
+          final = has-read c false finalRungs (rw (q, f .found, h .link) d, (refl, tt));
         })

@@ -12,13 +12,13 @@ use Rattle.terms.specs.Terms.{endRef}
 use Rattle.terms.specs.declared.Status.the-variants.{Done, Damg}
 use Rattle.schema.specs.declared.Schema.{Schema}
 use Rattle.schema.specs.declared.Entry.{Entry}
-use Rattle.schema.specs.Decode.{entryOf, pathOf, setCount}
+use Rattle.schema.specs.Decode.{entryOf, pathOf, setCount, schemaOf}
 use Rattle.records.specs.Areas.{areaLength, areaKeyOn}
 use Rattle.calls.specs.Call.{Call, Outcome, callOf}
 use Rattle.schema.specs.Naming.{setNamed, pathNamed, linkOf}
 use Rattle.condition3.specs.Plain.{Point, Lists, step}
 
--- a call but for schema and data base: the sequences of condition 3 are made of these
+-- a call but for what is fixed and what is lent: the sequences of condition 3 are made of these
 pub record Request : Type 0 where
   pub operation : List ℕ
   pub name : List ℕ
@@ -27,32 +27,63 @@ pub record Request : Type 0 where
   pub key : List ℕ
   pub area : List ℕ
 
-abbrev pub under : List ℕ → List ℕ → Request → Call
-under s b q = callOf (q .operation) (q .name) (q .reference) (q .path) (q .key) (q .area) s b
+-- the one of these parts, in document 01's order
+abbrev pub requestOf : List ℕ → List ℕ → ℕ → List ℕ → List ℕ → List ℕ → Request
+requestOf operation name reference path key area =
+    record { operation = operation; name = name; reference = reference; path = path; key = key; area = area }
 
--- ---- a sequence of calls under the schema s, from the data base b on
+-- "under one schema": what every call of a sequence has alike
+pub record Fixed : Type 0 where
+  pub schema : List ℕ
 
--- the data base at the end
-unfoldable pub afterCalls : (Call → Outcome) → List ℕ → List ℕ → List Request → List ℕ
-afterCalls answer s b [] = b
-afterCalls answer s b (q ∷ qs) = afterCalls answer s (answer (under s b q) .base) qs
+abbrev pub schemaIn : Fixed → Schema
+schemaIn f = schemaOf (f .schema)
 
--- the plain lists at the end; the step of a call is not shown the data base
-unfoldable pub plain : (Call → Outcome) → List ℕ → List ℕ → List Request → Lists → Lists
-plain answer s b [] l = l
-plain answer s b (q ∷ qs) l =
-    plain answer s (answer (under s b q) .base) qs (step (under s [] q) (answer (under s b q) .status) (answer (under s b q) .reference) l)
+-- what a call is lent and may change; what one leaves is lent to the next
+pub record Lent : Type 0 where
+  pub base : List ℕ
+
+abbrev pub lentAfter : Outcome → Lent
+lentAfter o = record { base = o .base }
+
+abbrev pub noneLent : Lent
+noneLent = record { base = [] }
+
+abbrev pub under : Fixed → Lent → Request → Call
+under f d q = callOf (q .operation) (q .name) (q .reference) (q .path) (q .key) (q .area) (f .schema) (d .base)
+
+-- ---- a sequence of calls under f, of which the first is lent d
+
+-- what is lent at the end
+unfoldable pub afterCalls : (Call → Outcome) → Fixed → Lent → List Request → Lent
+afterCalls answer f d [] = d
+afterCalls answer f d (q ∷ qs) = afterCalls answer f (lentAfter (answer (under f d q))) qs
+
+-- the plain lists at the end; the step of a call is not shown what is lent
+unfoldable pub plain : (Call → Outcome) → Fixed → Lent → List Request → Lists → Lists
+plain answer f d [] l = l
+plain answer f d (q ∷ qs) l =
+    plain answer f (lentAfter (answer (under f d q))) qs
+    (step (under f noneLent q) (answer (under f d q) .status) (answer (under f d q) .reference) l)
 
 -- no call of it says DAMG
-abbrev pub NoDamage : (Call → Outcome) → List ℕ → List ℕ → List Request → Type 0
-NoDamage answer s b [] = Unit {0}
-NoDamage answer s b (q ∷ qs) = (answer (under s b q) .status ≢ Damg) × NoDamage answer s (answer (under s b q) .base) qs
+abbrev pub NoDamage : (Call → Outcome) → Fixed → Lent → List Request → Type 0
+NoDamage answer f d [] = Unit {0}
+NoDamage answer f d (q ∷ qs) = (answer (under f d q) .status ≢ Damg) × NoDamage answer f (lentAfter (answer (under f d q))) qs
 
 -- ---- readings
 
+-- who reads: the answer to each request. What is lent is the same for all of them
+abbrev pub Reader : Type 0
+Reader = Request → Outcome
+
+-- who reads by the calls of a store
+abbrev pub readerOf : (Call → Outcome) → Fixed → Lent → Reader
+readerOf answer f d q = answer (under f d q)
+
 -- The calls that `ask` makes, the first with the reference r, each later one with the reference that the call before it returned, give these
--- points one after the other, and then END. All of them are made on one data base: that reads leave it as it was is said by the sequences, in
--- which reads are calls like any other.
+-- points one after the other, and then END. All of them are lent the same: that reads leave it as it was is said by the sequences, in which
+-- reads are calls like any other.
 abbrev pub Reads : (ℕ → Outcome) → ℕ → List Point → Type 0
 Reads ask r [] = (ask r .status ≡ Done) × (ask r .reference ≡ endRef)
 Reads ask r (x ∷ xs) =
@@ -96,20 +127,24 @@ noSetName = text "    "
 abbrev pub noPathName : List ℕ
 noPathName = text "        "
 
-module _ (answer : Call → Outcome) (s b : List ℕ) (w : Place) where
+-- READM of a place's masters
+abbrev pub readm : Place → List ℕ → Request
+readm w key = requestOf (text "READM") (w .masters) 0 noPathName key (w .master-area)
+
+module _ (ask : Reader) (w : Place) where
   abbrev pub rdnxt : ℕ → Outcome
-  rdnxt r = answer (callOf (text "RDNXT") (w .set) r noPathName [] (w .point-area) s b)
+  rdnxt r = ask (requestOf (text "RDNXT") (w .set) r noPathName [] (w .point-area))
 
   module _ (key : List ℕ) where
     -- the master exists: READM answers ****
     abbrev pub Exists : Type 0
-    Exists = answer (callOf (text "READM") (w .masters) 0 noPathName key (w .master-area) s b) .status ≡ Done
+    Exists = ask (readm w key) .status ≡ Done
 
     abbrev pub readv : ℕ → Outcome
-    readv r = answer (callOf (text "READV") (w .set) r (w .path) key (w .point-area) s b)
+    readv r = ask (requestOf (text "READV") (w .set) r (w .path) key (w .point-area))
 
     abbrev pub readr : ℕ → Outcome
-    readr r = answer (callOf (text "READR") (w .set) r (w .path) key (w .point-area) s b)
+    readr r = ask (requestOf (text "READR") (w .set) r (w .path) key (w .point-area))
 
 -- the points with this key on path j
 unfoldable pub ofKey : Entry → ℕ → List ℕ → List Point → List Point

@@ -54,13 +54,13 @@ module _ (b : List ℕ) (e : Entry) where
       by false h = ap (λ (zs : List Point). pointOf b e x ∷ zs) h
 
 -- the record n has another area in c, the others have those of b
-pub rewritten-shown : (b c : List ℕ) (e : Entry) (n : ℕ) (area : List ℕ) (rs : List ℕ) → areaOf c e n ≡ area → All (λ r. r ≢ n → areaOf c e r ≡ areaOf b e r) rs
-    → rewritten n area (shown b e rs) ≡ shown c e rs
+pub rewritten-shown : (b c : List ℕ) (e : Entry) (n : ℕ) (f : List ℕ → List ℕ) (rs : List ℕ) → areaOf c e n ≡ f (areaOf b e n) → All (λ r. r ≢ n → areaOf c e r ≡ areaOf b e r) rs
+    → rewritten n f (shown b e rs) ≡ shown c e rs
 unfolding rewritten
-rewritten-shown b c e n area [] k h = refl
-rewritten-shown b c e n area (x ∷ xs) k h = by (eqb x n) refl (rewritten-shown b c e n area xs k (h .1))
+rewritten-shown b c e n f [] k h = refl
+rewritten-shown b c e n f (x ∷ xs) k h = by (eqb x n) refl (rewritten-shown b c e n f xs k (h .1))
   where
-    by : (s : Bool) → eqb x n ≡ s → rewritten n area (shown b e xs) ≡ shown c e xs
-        → cond s (record { number = n; area = area }) (pointOf b e x) ∷ rewritten n area (shown b e xs) ≡ pointOf c e x ∷ shown c e xs
+    by : (s : Bool) → eqb x n ≡ s → rewritten n f (shown b e xs) ≡ shown c e xs
+        → cond s (record { number = n; area = f (areaOf b e x) }) (pointOf b e x) ∷ rewritten n f (shown b e xs) ≡ pointOf c e x ∷ shown c e xs
     by true q i = rw (eqb-true x n q, i) (ap (λ (z : List ℕ). record { number = n; area = z } ∷ shown c e xs) (sym k))
     by false q i = rw (i, h .0 (eqb-false x n q)) refl

@@ -3,26 +3,30 @@
 use Prim.Native.Nat.{ℕ, _<_}
 use mathlib.Core.Path.{_≡_, refl, sym, ap, _∙_}
 use mathlib.Core.Logic.{_≢_, _⊎_, inl, inr, ⊎-elim}
-use mathlib.Core.Bool.{true, cond}
+use mathlib.Core.Bool.{true, false, cond, not, _||_}
 use mathlib.Core.List.{List, [], _∷_}
 use borrow.Author.Tests.{ne-eqb}
 use Rattle.octets.specs.BelowLaws.{same?}
 use Rattle.terms.specs.declared.Status.{Status}
 use Rattle.terms.specs.declared.Status.the-variants.{Done}
 use Rattle.terms.specs.declared.Operation.{Operation}
-use Rattle.terms.specs.declared.Operation.the-variants.{Formt, Sinon, AddM, DelM, Readm, Writm, Rqloc, Rdnxt, Readv, Readr, Readd, Writv, Addvc, Addvb, Addva, Delvd, Unknown}
+use Rattle.terms.specs.declared.Operation.the-variants.{Formt, AddM, DelM, Writm, Writv, Addvc, Addvb, Addva, Delvd}
 use Rattle.terms.specs.Operation.{operationOf}
 use Rattle.terms.specs.Status.{statusNumber}
 use Rattle.terms.specs.Laws.{status-number-one}
 use Rattle.schema.specs.declared.Schema.{Schema}
 use Rattle.schema.specs.Decode.{schemaOf}
+use Rattle.blocks.specs.Blocks.{checkBy}
 use Rattle.plans.specs.Plan.{storeAll, sealAll, committed, formatted}
 use Rattle.points.specs.declared.Spot.the-variants.{Last, After, Before}
 use Rattle.calls.specs.Call.{Call, Outcome, oneOf, adds}
 use Rattle.calls.specs.Scene.{Scene, sceneUnder}
-use Rattle.calls.specs.Ladder.{parameterTests, foundTests, otherMasterTests, finalTests}
+use Rattle.calls.specs.Ladder.{Rung, otherRungs, finalRungs, refuses}
+use Rattle.calls.specs.Ladder.Rung.{NoPoints, MasterRoom, PointRoom}
 use Rattle.calls.specs.LadderLaws.{Passes}
-use Rattle.calls.specs.Reply.{spotOf, referenceBy, referenceAfter, storesBy, storesOf, baseAfter}
+use Rattle.calls.specs.OperationLaws.{everyOperation, none-of, by-operation}
+use Rattle.calls.specs.OutcomeLaws.{rungIn, hasRung, passed}
+use Rattle.calls.specs.Reply.{fullArea, spotOf, referenceBy, referenceAfter, storesBy, storesOf, baseAfter}
 use Rattle.calls.specs.Outcome.{done, outcome}
 use Rattle.calls.specs.Theorems.{refused-changes-nothing}
 use Rattle.kept_state.specs.Tests.{AddTests}
@@ -33,9 +37,13 @@ use Rattle.point_steps.specs.FollowLaws.{master-step-keeps}
 use Rattle.condition3.specs.Plain.{Lists, before, behind, setIn, pathIn, atEnd, stepBy, step}
 use Rattle.condition3.specs.Shown.{Ready}
 use Rattle.condition3.specs.ShownLaws.{shown-append, before-shown, behind-shown}
-use Rattle.condition3.specs.Outcomes.{done-is, done-rungs}
+use Rattle.condition3.specs.Outcomes.{parameterRungs, foundRungs, done-is, done-rungs}
 use Rattle.condition3.specs.CallTests.{add-master-tests, del-master-tests, write-master-tests, del-tests, write-tests, add-tests}
 use Rattle.condition3.specs.Turns.{AllRows, Turned, nothing-turned, same-turned, add-turned, del-turned, write-turned}
+
+-- the calls that change the data base
+abbrev storing : List Operation
+storing = Formt ∷ AddM ∷ DelM ∷ Writm ∷ Writv ∷ Addvc ∷ Addvb ∷ Addva ∷ Delvd ∷ []
 
 -- a call is done or not
 pub status? : (s : Status) → (s ≡ Done) ⊎ (s ≢ Done)
@@ -65,40 +73,79 @@ module _ (c : Call) (rows : AllRows) (g : Ready (c .schema) (c .base) rows) wher
   master-turned : (a : List ℕ) → n < t .masters → MasterStep t b a n → Turned t b a rows (λ l. l)
   master-turned a l s = same-turned t b rows (g .stands) a (master-step-keeps t (g .world) b a rows n l (g .stands) s) (s .areas)
 
-  format-turned : Turned t b (formatted (t .blocks)) rows (λ l i v key. [])
+  format-turned : Turned t b (formatted (checkBy (t .edition)) (t .blocks)) rows (λ l i v key. [])
   format-turned = record { now = λ i v key. []; stands = format-represents t (g .world); shows = λ l i v p h key. refl }
 
   -- ---- every call that is done
 
-  module _ (p : Passes (parameterTests x c)) (f : Passes (foundTests x c)) (h : Passes (otherMasterTests x c)) (z : Passes (finalTests x c)) where
-    add-by : (u : Operation) → o ≡ u → oneOf u adds ≡ true → AddTests t b n j (c .area) (spotOf u (c .reference))
-    add-by u q a = add-tests t (g .world .ok) c p f u q a h (z .1 .1 .0)
+  module _ (p : Passes x c parameterRungs) (f : Passes x c foundRungs) (h : Passes x c (otherRungs (x .entry .count))) (z : Passes x c finalRungs) where
+    -- the last test of this name
+    by : (r : Rung) → hasRung r finalRungs ≡ true → refuses x c (rungIn r finalRungs) ≡ false
+    by r i = passed x c finalRungs r i z
 
-    turned-by : (u : Operation) → o ≡ u → Turned t b (cond (oneOf u (Formt ∷ [])) (formatted (t .blocks)) (committed b (storesBy u x c))) rows (stepBy u c (referenceBy u x c))
-    unfolding sceneUnder committed storeAll sealAll
-    turned-by Formt q = format-turned
-    turned-by AddM q =
-        let s = add-master-tests t (g .world .ok) c p f q (z .1 .0) in
-        rw q (master-turned _ (s .set) (add-master-step t (g .world) b rows (g .stands) n (c .key) (c .area) s))
-    turned-by DelM q =
-        let s = del-master-tests t (g .world .ok) c p f q (z .0) in
+    add-by : (u : Operation) → o ≡ u → oneOf u adds ≡ true → AddTests t b n j (fullArea x c) (spotOf u (c .reference))
+    add-by u q a = add-tests t (g .world .ok) c p f u q a h (by PointRoom refl)
+
+    -- what a call of this operation does to data base and lists
+    abbrev Turns : Operation → Type 0
+    Turns u =
+        o ≡ u
+        → Turned t b (cond (oneOf u (Formt ∷ [])) (formatted (checkBy (t .edition)) (t .blocks)) (committed (checkBy (t .edition)) b (storesBy u x c))) rows
+        (λ l. stepBy u c (referenceBy u x c) l)
+
+    formt : Turns Formt
+    formt q = format-turned
+
+    addm : Turns AddM
+    unfolding sceneUnder
+    addm q =
+        let s = add-master-tests t (g .world .ok) c p f q (by MasterRoom refl) in
+        rw q (master-turned _ (s .set) (add-master-step t (g .world) b rows (g .stands) n (c .key) (fullArea x c) s))
+
+    delm : Turns DelM
+    unfolding sceneUnder
+    delm q =
+        let s = del-master-tests t (g .world .ok) c p f q (by NoPoints refl) in
         rw q (master-turned _ (s .set) (del-master-step t (g .world) b rows (g .stands) n (c .key) s))
-    turned-by Writm q =
+
+    writm : Turns Writm
+    unfolding sceneUnder
+    writm q =
         let s = write-master-tests t (g .world .ok) c p f q in
-        rw q (master-turned _ (s .set) (write-master-step t (g .world) b rows (g .stands) n (c .key) (c .area) s))
-    turned-by Writv q = write-turned c rows g (write-tests t (g .world .ok) c p f q)
-    turned-by Addvc q = add-turned c rows g Last (add-by Addvc q refl) atEnd (λ d k r xs. sym (shown-append d k xs (r ∷ [])))
-    turned-by Addvb q = add-turned c rows g (Before (record { 0 = c .reference })) (add-by Addvb q refl) (before (c .reference)) (λ d k r xs. before-shown d k (c .reference) r xs)
-    turned-by Addva q = add-turned c rows g (After (record { 0 = c .reference })) (add-by Addva q refl) (behind (c .reference)) (λ d k r xs. behind-shown d k (c .reference) r xs)
-    turned-by Delvd q = del-turned c rows g (del-tests t (g .world .ok) c p f q)
-    turned-by Sinon q = nothing-turned t b rows (g .stands)
-    turned-by Readm q = nothing-turned t b rows (g .stands)
-    turned-by Rqloc q = nothing-turned t b rows (g .stands)
-    turned-by Rdnxt q = nothing-turned t b rows (g .stands)
-    turned-by Readv q = nothing-turned t b rows (g .stands)
-    turned-by Readr q = nothing-turned t b rows (g .stands)
-    turned-by Readd q = nothing-turned t b rows (g .stands)
-    turned-by Unknown q = nothing-turned t b rows (g .stands)
+        rw q (master-turned _ (s .set) (write-master-step t (g .world) b rows (g .stands) n (c .key) (fullArea x c) s))
+
+    writv : Turns Writv
+    unfolding sceneUnder
+    writv q = write-turned c rows g (write-tests t (g .world .ok) c p f q)
+
+    addvc : Turns Addvc
+    unfolding sceneUnder
+    addvc q = add-turned c rows g Last (add-by Addvc q refl) atEnd (λ d k r xs. sym (shown-append d k xs (r ∷ [])))
+
+    addvb : Turns Addvb
+    unfolding sceneUnder
+    addvb q = add-turned c rows g (Before (record { 0 = c .reference })) (add-by Addvb q refl) (before (c .reference)) (λ d k r xs. before-shown d k (c .reference) r xs)
+
+    addva : Turns Addva
+    unfolding sceneUnder
+    addva q = add-turned c rows g (After (record { 0 = c .reference })) (add-by Addva q refl) (behind (c .reference)) (λ d k r xs. behind-shown d k (c .reference) r xs)
+
+    delvd : Turns Delvd
+    unfolding sceneUnder
+    delvd q = del-turned c rows g (del-tests t (g .world .ok) c p f q)
+
+    -- no other stores anything
+    none : (u : Operation) → oneOf u storing ≡ false → Turns u
+    unfolding committed storeAll sealAll
+    none u h q =
+        rw (no (Formt ∷ []) refl, no (AddM ∷ []) refl, no (DelM ∷ []) refl, no (Writm ∷ []) refl, no (Writv ∷ []) refl, no adds refl, no (Delvd ∷ []) refl, no (Addvc ∷ []) refl, no (Addvb ∷ []) refl, no (Addva ∷ []) refl)
+        (nothing-turned t b rows (g .stands))
+      where
+        no : (vs : List Operation) → everyOperation (λ u. not (not (oneOf u storing)) || not (oneOf u vs)) ≡ true → oneOf u vs ≡ false
+        no vs e = none-of (λ u. not (oneOf u storing)) (λ u. oneOf u vs) e u (rw h refl)
+
+    turned-by : Turns o
+    turned-by = by-operation Turns storing (formt, (addm, (delm, (writm, (writv, (addvc, (addvb, (addva, (delvd, tt))))))))) o (none o)
 
   -- ---- every call
 
@@ -106,7 +153,7 @@ module _ (c : Call) (rows : AllRows) (g : Ready (c .schema) (c .base) rows) wher
   unfolding done baseAfter storesOf referenceAfter sceneUnder
   done-turned d =
       let k = done-rungs c d in
-      turned-by (k .parameters) (k .found) (k .others) (k .final) o refl
+      turned-by (k .parameters) (k .found) (k .others) (k .final) refl
 
   step-done : (s : Status) (q : ℕ) (l : Lists) → s ≡ Done → step c s q l ≡ stepBy o c q l
   unfolding step

@@ -3,6 +3,7 @@
 use Prim.Native.Nat.{_*_, _≤_, _<_}
 use mathlib.Core.Path.{_≡_, refl}
 use mathlib.Core.Bool.{true}
+use mathlib.Core.List.{List}
 use native.Mathlib.Omega.{arith}
 use lib.ListN.{length}
 use borrow.Author.Tests.{eq-eqb, ne-eqb, le-leb, lt-ltb}
@@ -13,30 +14,20 @@ use Rattle.terms.specs.Operation.{operationOf}
 use Rattle.schema.specs.Decode.{setCount, schemaOf}
 use Rattle.schema.specs.Layout.{keepsRules}
 use Rattle.records.specs.Areas.{areaLength}
-use Rattle.masters.specs.Find.{nextLive}
+use Rattle.scan.specs.Scan.{nextLive}
 use Rattle.plans.specs.Plan.{blocksSealed}
 use Rattle.calls.specs.Call.{Call}
-use Rattle.calls.specs.Scene.{Scene, sceneUnder, sceneOf}
+use Rattle.calls.specs.Scene.{sceneUnder, sceneOf}
 use Rattle.calls.specs.Reply.{orNone, given, referenceAfter, areaAfter, storesOf}
-use Rattle.calls.specs.Ladder.{wrongKind, generalTests, parameterTests, foundTests, finalTests, ladder}
-use Rattle.calls.specs.LadderLaws.{Passes, others-pass}
+use Rattle.calls.specs.Ladder.{wrongKind, Rung, generalRungs, finalRungs, ladder}
+use Rattle.calls.specs.LadderLaws.{Passes, others-pass, askedOf, AllHold, holds-passes}
 use Rattle.calls.specs.Outcome.{done, outcome}
 use Rattle.condition3.specs.Plain.{setIn, entryIn}
-use Rattle.condition3.specs.Outcomes.{climbed, outcome-done, Gives}
+use Rattle.condition3.specs.Outcomes.{parameterRungs, foundRungs, climbed, outcome-done, Gives}
 
 pub rdnxt-asks : operationOf (text "RDNXT") ≡ Rdnxt
 unfolding operationOf sameBytes
 rdnxt-asks = refl
-
--- ---- no test that RDNXT does not have refuses it
-
-module _ (x : Scene) (c : Call) (q : x .operation ≡ Rdnxt) where
-  found-pass : Passes (foundTests x c)
-  found-pass = rw q (refl, (refl, (refl, (refl, (refl, (refl, tt))))))
-
-  final-pass : Passes (finalTests x c)
-  unfolding storesOf blocksSealed
-  final-pass = rw q (refl, (refl, (refl, (refl, (refl, (refl, (refl, (refl, (refl, (refl, (refl, tt)))))))))))
 
 -- ---- the call
 
@@ -46,26 +37,20 @@ module _ (c : Call) (q : operationOf (c .operation) ≡ Rdnxt) (rules : keepsRul
   unfolding sceneUnder
   operation-here = q
 
-  general-pass : Passes (generalTests (sceneOf c) c)
-  unfolding sceneUnder
-  general-pass =
-      let l : length (c .base) ≡ schemaOf (c .schema) .blocks * 512 = omega arith in
-      rw (q, rules, eq-eqb _ _ l) (refl, (refl, (refl, tt)))
+  -- a test that RDNXT has not does not concern it
+  has : (rs : List Rung) → AllHold (sceneOf c) c (askedOf Rdnxt rs) → Passes (sceneOf c) c rs
+  has = holds-passes (sceneOf c) c Rdnxt operation-here
 
-  parameters-pass : Passes (parameterTests (sceneOf c) c)
-  unfolding sceneUnder wrongKind
-  parameters-pass =
-      rw (q, lt-ltb _ _ known, eq-eqb _ _ lent, le-leb _ _ within)
-      (refl, (refl, (refl, (refl, (refl, (refl, (refl, (refl, (refl, (refl, (refl, (refl, tt))))))))))))
-
-  passes : Passes (ladder (sceneOf c) c)
+  passes : Passes (sceneOf c) c (ladder (sceneOf c))
+  unfolding sceneUnder wrongKind storesOf blocksSealed
   passes =
+      let l : length (c .base) ≡ schemaOf (c .schema) .blocks * 512 = omega arith in
       climbed (sceneOf c) c (record {
-        general = general-pass;
-        parameters = parameters-pass;
-        found = found-pass (sceneOf c) c operation-here;
-        others = others-pass (sceneOf c) c (rw operation-here refl) (rw operation-here refl);
-        final = final-pass (sceneOf c) c operation-here;
+        general = has generalRungs (rw rules refl, (rw (eq-eqb _ _ l) refl, tt));
+        parameters = has parameterRungs (rw (lt-ltb _ _ known) refl, (rw q refl, (rw (eq-eqb _ _ lent) refl, (rw (le-leb _ _ within) refl, tt))));
+        found = has foundRungs tt;
+        others = others-pass (sceneOf c) c (rw operation-here refl) (rw operation-here refl) (entryIn c .count);
+        final = has finalRungs (rw q refl, tt);
       })
 
   reply : Gives (c .base) (entryIn c) (done (sceneOf c) c) (orNone (entryIn c) (nextLive (c .base) (entryIn c) (c .reference)))

@@ -12,7 +12,7 @@ use Rattle.octets.specs.Below.{lowestFrom, concatBelow}
 use Rattle.terms.specs.Laws.{endRef-high}
 use Rattle.schema.specs.declared.Entry.{Entry}
 use Rattle.schema.specs.declared.Schema.{Schema}
-use Rattle.schema.specs.Decode.{entryOf, pathOf, schemaOf}
+use Rattle.schema.specs.Decode.{entryOf, pathOf}
 use Rattle.schema.specs.Place.{InSet}
 use Rattle.schema.specs.Guarantee.{IsPathOf}
 use Rattle.schema.specs.GuaranteeLaws.{lies}
@@ -20,7 +20,7 @@ use Rattle.records.specs.Records.{isLive, keyOn}
 use Rattle.records.specs.Areas.{areaKeyOn, areaOf}
 use Rattle.records.specs.KindLaws.{is-variable}
 use Rattle.records.specs.RecordLaws.{whole-inside}
-use Rattle.masters.specs.Find.{nextLive}
+use Rattle.scan.specs.Scan.{nextLive}
 use Rattle.chains.specs.Members.{all-in}
 use Rattle.sound.specs.Sound.{recordsWith}
 use Rattle.sound.specs.ListLaws.{recordsWith-in, in-recordsWith, nodup-recordsWith}
@@ -29,7 +29,7 @@ use Rattle.calls.specs.Reply.{orNone}
 use Rattle.calls.specs.Outcome.{outcome}
 use Rattle.kept_state.specs.Rows.{World, Mine, PathRows}
 use Rattle.point_steps.specs.RowFacts.{row-nodup}
-use Rattle.condition3.specs.Readings.{Reads, Place, setNo, entryNamed, pathNo, IsPlace, rdnxt, ofKey, SameOnce}
+use Rattle.condition3.specs.Readings.{Fixed, schemaIn, Lent, readerOf, Reads, Place, setNo, entryNamed, pathNo, IsPlace, rdnxt, ofKey, SameOnce}
 use Rattle.condition3.specs.PlaceLaws.{place-path}
 use Rattle.condition3.specs.Shown.{shown, Ready}
 use Rattle.condition3.specs.Outcomes.{Gives}
@@ -120,17 +120,23 @@ module _ (t : Schema) (b : List ℕ) (i j : ℕ) (rows : List ℕ → List ℕ) 
       let d = all-in (Mine t b i j key) r (rows key) (path .mine key) m in
       (in-recordsWith e (isLive b e) r (d .0 .0) (d .0 .1), area-key r (d .0 .0) ∙ d .1))
 
-module _ (s b : List ℕ) (rows : ℕ → ℕ → List ℕ → List ℕ) (g : Ready s b rows) (w : Place) (p : IsPlace (schemaOf s) w) (key : List ℕ) where
+module _ (f : Fixed) (d : Lent) (rows : ℕ → ℕ → List ℕ → List ℕ) (g : Ready (f .schema) (d .base) rows) (w : Place) (p : IsPlace (schemaIn f) w) (key : List ℕ) where
+  abbrev t : Schema
+  t = schemaIn f
+
+  abbrev b : List ℕ
+  b = d .base
+
   -- RDNXT from 0 on gives every live record of the set in ascending order, then END.
-  pub sweep-reads : Reads (rdnxt outcome s b w) 0 (shown b (entryNamed (schemaOf s) w) (liveRecords b (entryNamed (schemaOf s) w)))
+  pub sweep-reads : Reads (rdnxt (readerOf outcome f d) w) 0 (shown b (entryNamed t w) (liveRecords b (entryNamed t w)))
   sweep-reads =
-      swept b (entryNamed (schemaOf s) w) (rdnxt outcome s b w) (g .world .ok .set (setNo (schemaOf s) w) (p .set) .many)
+      swept b (entryNamed t w) (rdnxt (readerOf outcome f d) w) (g .world .ok .set (setNo t w) (p .set) .many)
       (λ r l. sweep-gives _ rdnxt-asks (g .rules) (g .stands .sized) (p .set) (p .point-area) l)
 
   -- and those of the key are the points of the row, each once
-  pub sweep-same : SameOnce (ofKey (entryNamed (schemaOf s) w) (pathNo (schemaOf s) w) key (shown b (entryNamed (schemaOf s) w) (liveRecords b (entryNamed (schemaOf s) w))))
-      (shown b (entryNamed (schemaOf s) w) (rows (setNo (schemaOf s) w) (pathNo (schemaOf s) w) key))
+  pub sweep-same : SameOnce (ofKey (entryNamed t w) (pathNo t w) key (shown b (entryNamed t w) (liveRecords b (entryNamed t w))))
+      (shown b (entryNamed t w) (rows (setNo t w) (pathNo t w) key))
   sweep-same =
-      let is = place-path (schemaOf s) w (g .world .ok) p in
-      row-points (schemaOf s) b (setNo (schemaOf s) w) (pathNo (schemaOf s) w) (rows (setNo (schemaOf s) w) (pathNo (schemaOf s) w)) key (g .world) (g .stands .sized) is
-      (g .stands .paths (setNo (schemaOf s) w) (pathNo (schemaOf s) w) is)
+      let is = place-path t w (g .world .ok) p in
+      row-points t b (setNo t w) (pathNo t w) (rows (setNo t w) (pathNo t w)) key (g .world) (g .stands .sized) is
+      (g .stands .paths (setNo t w) (pathNo t w) is)

@@ -14,16 +14,19 @@ use Rattle.terms.specs.declared.Status.the-variants.{Done}
 use Rattle.terms.specs.declared.Operation.the-variants.{Formt, Sinon}
 use Rattle.terms.specs.Operation.{operationOf}
 use Rattle.schema.specs.declared.Entry.{Entry}
+use Rattle.schema.specs.declared.Schema.{Schema}
 use Rattle.schema.specs.Guarantee.{IsPathOf}
 use Rattle.schema.specs.Layout.{keepsRules}
 use Rattle.schema.specs.Decode.{entryOf, schemaOf}
 use Rattle.schema.specs.GuaranteeLaws.{guaranteed}
 use Rattle.records.specs.AreaLaws.{fields-of}
+use Rattle.blocks.specs.Blocks.{checkBy}
 use Rattle.plans.specs.Plan.{blocksSealed, formatted}
 use Rattle.sound.specs.Sound.{sound}
-use Rattle.calls.specs.Call.{Call, Outcome, callOf, oneOf}
+use Rattle.calls.specs.Call.{Call, Outcome, oneOf}
 use Rattle.calls.specs.Scene.{sceneOf, sceneUnder}
-use Rattle.calls.specs.LadderLaws.{others-pass}
+use Rattle.calls.specs.Ladder.{generalRungs, finalRungs}
+use Rattle.calls.specs.LadderLaws.{others-pass, holds-passes}
 use Rattle.calls.specs.Outcome.{done, outcome, IsOutcome}
 use Rattle.calls.specs.Theorems.{has-outcome, one-outcome}
 use Rattle.calls.specs.Reply.{storesOf, baseAfter}
@@ -31,13 +34,13 @@ use Rattle.kept_state.specs.Rows.{World}
 use Rattle.kept_state.specs.FreshLaws.{format-represents}
 use Rattle.point_steps.specs.Standing.{rowsIn, sound-represents, represents-sound}
 use Rattle.condition3.specs.Plain.{Lists}
-use Rattle.condition3.specs.Readings.{Request, under, afterCalls, plain, NoDamage, Place, setNo, entryNamed, pathNo, IsPlace, Exists, readv, rdnxt, link, noSetName, noPathName}
-use Rattle.condition3.specs.Condition.{SignsOn, Formatted, Start, StartLists, Kept, Condition3}
+use Rattle.condition3.specs.Readings.{Request, Fixed, schemaIn, Lent, lentAfter, under, afterCalls, plain, NoDamage, Reader, readerOf, Place, setNo, entryNamed, pathNo, IsPlace, readm, Exists, readv, rdnxt, link}
+use Rattle.condition3.specs.Condition.{sinon, formt, SignsOn, Formatted, Start, StartLists, Kept, Condition3}
 use Rattle.condition3.specs.ReadingLaws.{step-unseen, reads-one}
 use Rattle.condition3.specs.PlaceLaws.{place-path}
 use Rattle.condition3.specs.Shown.{shown, Ready}
 use Rattle.octets.specs.TestLaws.{asked}
-use Rattle.condition3.specs.Outcomes.{AllPassed, climbed, outcome-done, done-is, done-rungs}
+use Rattle.condition3.specs.Outcomes.{parameterRungs, foundRungs, AllPassed, climbed, outcome-done, done-is, done-rungs}
 use Rattle.condition3.specs.Quiet.{never-damaged}
 use Rattle.condition3.specs.Turns.{AllRows, Shows}
 use Rattle.condition3.specs.Steps.{status?, call-turned}
@@ -83,28 +86,28 @@ unfolding sceneUnder
 signs-sound c q d = not-false _ (asked (oneOf (operationOf (c .operation)) (Sinon ∷ [])) _ (done-rungs c d .final .1 .1 .1 .0) (rw q refl))
 
 -- what FORMT leaves
-format-leaves : (c : Call) → operationOf (c .operation) ≡ Formt → outcome c .status ≡ Done → outcome c .base ≡ formatted (schemaOf (c .schema) .blocks)
+format-leaves : (c : Call) → operationOf (c .operation) ≡ Formt → outcome c .status ≡ Done → outcome c .base ≡ formatted (checkBy (schemaOf (c .schema) .edition)) (schemaOf (c .schema) .blocks)
 unfolding done baseAfter sceneUnder
 format-leaves c q d = rw (done-is c d) (rw q refl)
 
 -- such a data base stands for rows
-signed-ready : (s b : List ℕ) → SignsOn outcome s b → Ready s b (rowsIn (schemaOf s) b)
-signed-ready s b d =
-    let c = callOf (text "SINON") noSetName 0 noPathName [] [] s b in
-    let k = general c d in
-    let w = world s (k .0) in
-    record { rules = k .0; world = w; stands = sound-represents (schemaOf s) b w (k .1) (signs-sound c signing-on d) }
+signed-ready : (f : Fixed) (d : Lent) → SignsOn (readerOf outcome f d) → Ready (f .schema) (d .base) (rowsIn (schemaIn f) (d .base))
+signed-ready f d h =
+    let c = under f d sinon in
+    let k = general c h in
+    let w = world (f .schema) (k .0) in
+    record { rules = k .0; world = w; stands = sound-represents (schemaIn f) (d .base) w (k .1) (signs-sound c signing-on h) }
 
-format-ready : (s b : List ℕ) → Formatted outcome s b → Ready s b (λ i j key. [])
-format-ready s b f =
-    let c = callOf (text "FORMT") noSetName 0 noPathName [] [] s (f .0) in
-    let k = general c (f .1) in
-    let w = world s (k .0) in
-    record { rules = k .0; world = w; stands = rw (f .2, format-leaves c formatting (f .1)) (format-represents (schemaOf s) w) }
+format-ready : (f : Fixed) (d : Lent) → Formatted outcome f d → Ready (f .schema) (d .base) (λ i j key. [])
+format-ready f d h =
+    let c = under f (h .0) formt in
+    let k = general c (h .1) in
+    let w = world (f .schema) (k .0) in
+    record { rules = k .0; world = w; stands = rw (ap (λ (z : Lent). z .base) (h .2), format-leaves c formatting (h .1)) (format-represents (schemaIn f) w) }
 
-start-ready : (s b : List ℕ) → Start outcome s b → (rows : AllRows) × Ready s b rows
-start-ready s b (inl h) = (rowsIn (schemaOf s) b, signed-ready s b h)
-start-ready s b (inr h) = (λ i j key. [], format-ready s b h)
+start-ready : (f : Fixed) (d : Lent) → Start outcome f d → (rows : AllRows) × Ready (f .schema) (d .base) rows
+start-ready f d (inl h) = (rowsIn (schemaIn f) (d .base), signed-ready f d h)
+start-ready f d (inr h) = (λ i j key. [], format-ready f d h)
 
 -- ---- sign-on accepts every such data base
 
@@ -114,11 +117,11 @@ module _ (c : Call) (rows : AllRows) (g : Ready (c .schema) (c .base) rows) (q :
   sign-rungs =
       let z : length (c .base) ≡ schemaOf (c .schema) .blocks * 512 = omega (arith, g .stands .sized) in
       record {
-        general = rw (q, g .rules, eq-eqb _ _ z) (refl, (refl, (refl, tt)));
-        parameters = rw q (refl, (refl, (refl, (refl, (refl, (refl, (refl, (refl, (refl, (refl, (refl, (refl, tt))))))))))));
-        found = rw q (refl, (refl, (refl, (refl, (refl, (refl, tt))))));
-        others = others-pass (sceneOf c) c (rw q refl) (rw q refl);
-        final = rw (q, represents-sound (schemaOf (c .schema)) (c .base) rows (g .world) (g .stands)) (refl, (refl, (refl, (refl, (refl, (refl, (refl, (refl, (refl, (refl, (refl, tt)))))))))));
+        general = holds-passes (sceneOf c) c Sinon q generalRungs (rw (g .rules) refl, (rw (eq-eqb _ _ z) refl, tt));
+        parameters = holds-passes (sceneOf c) c Sinon q parameterRungs tt;
+        found = holds-passes (sceneOf c) c Sinon q foundRungs tt;
+        others = others-pass (sceneOf c) c (rw q refl) (rw q refl) (sceneOf c .entry .count);
+        final = holds-passes (sceneOf c) c Sinon q finalRungs (rw (represents-sound (schemaOf (c .schema)) (c .base) rows (g .world) (g .stands)) refl, (rw q refl, tt));
       }
 
   sign-done : outcome c .status ≡ Done
@@ -133,11 +136,11 @@ module _ (c : Call) (rules : keepsRules (c .schema) ≡ true) (sized : length (c
   format-rungs =
       let z : length (c .base) ≡ schemaOf (c .schema) .blocks * 512 = omega arith in
       record {
-        general = rw (q, rules, eq-eqb _ _ z) (refl, (refl, (refl, tt)));
-        parameters = rw q (refl, (refl, (refl, (refl, (refl, (refl, (refl, (refl, (refl, (refl, (refl, (refl, tt))))))))))));
-        found = rw q (refl, (refl, (refl, (refl, (refl, (refl, tt))))));
-        others = others-pass (sceneOf c) c (rw q refl) (rw q refl);
-        final = rw q (refl, (refl, (refl, (refl, (refl, (refl, (refl, (refl, (refl, (refl, (refl, tt)))))))))));
+        general = holds-passes (sceneOf c) c Formt q generalRungs (rw rules refl, (rw (eq-eqb _ _ z) refl, tt));
+        parameters = holds-passes (sceneOf c) c Formt q parameterRungs tt;
+        found = holds-passes (sceneOf c) c Formt q foundRungs tt;
+        others = others-pass (sceneOf c) c (rw q refl) (rw q refl) (sceneOf c .entry .count);
+        final = holds-passes (sceneOf c) c Formt q finalRungs (rw q refl, tt);
       }
 
   format-done : outcome c .status ≡ Done
@@ -146,83 +149,97 @@ module _ (c : Call) (rules : keepsRules (c .schema) ≡ true) (sized : length (c
 
 -- ---- readings show the rows
 
-module _ (s b : List ℕ) (rows : AllRows) (g : Ready s b rows) where
+module _ (f : Fixed) (d : Lent) (rows : AllRows) (g : Ready (f .schema) (d .base) rows) where
+  abbrev t : Schema
+  t = schemaIn f
+
+  abbrev b : List ℕ
+  b = d .base
+
+  abbrev ask : Reader
+  ask = readerOf outcome f d
+
   -- the lists that show the rows are those that it starts with
-  shown-starts : StartLists outcome s b (λ i j key. shown b (entryOf (schemaOf s) i) (rows i j key))
+  shown-starts : StartLists t ask (λ i j key. shown b (entryOf t i) (rows i j key))
   shown-starts = record {
-    read = λ w key p h. reads-forward s b rows g w p key h;
-    none = λ w key p n. ⊎-elim (λ z. rw z refl) (λ h. absurd (n h)) (row-or-exists s b rows g w p key);
+    read = λ w key p h. reads-forward f d rows g w p key h;
+    none = λ w key p n. ⊎-elim (λ z. rw z refl) (λ h. absurd (n h)) (row-or-exists f d rows g w p key);
   }
 
   -- and no others
-  starts-shown : (l : Lists) → StartLists outcome s b l → (w : Place) → IsPlace (schemaOf s) w → Shows (schemaOf s) b rows l (setNo (schemaOf s) w) (pathNo (schemaOf s) w)
-  starts-shown l h w p key = by (status? (outcome (callOf (text "READM") (w .masters) 0 noPathName key (w .master-area) s b) .status))
+  starts-shown : (l : Lists) → StartLists t ask l → (w : Place) → IsPlace t w → Shows t b rows l (setNo t w) (pathNo t w)
+  starts-shown l h w p key = by (status? (ask (readm w key) .status))
     where
-      by : Exists outcome s b w key ⊎ (Exists outcome s b w key → ⊥)
-          → l (setNo (schemaOf s) w) (pathNo (schemaOf s) w) key ≡ shown b (entryNamed (schemaOf s) w) (rows (setNo (schemaOf s) w) (pathNo (schemaOf s) w) key)
-      by (inl k) = reads-one (readv outcome s b w key) (link (schemaOf s) w) _ _ (h .read w key p k) (reads-forward s b rows g w p key k)
+      by : Exists ask w key ⊎ (Exists ask w key → ⊥) → l (setNo t w) (pathNo t w) key ≡ shown b (entryNamed t w) (rows (setNo t w) (pathNo t w) key)
+      by (inl k) = reads-one (readv ask w key) (link t w) _ _ (h .read w key p k) (reads-forward f d rows g w p key k)
       by (inr n) = h .none w key p n ∙ sym (shown-starts .none w key p n)
 
   -- what is kept of one path and key
-  rows-kept : (w : Place) (key : List ℕ) → IsPlace (schemaOf s) w
-      → Kept outcome s b w key (shown b (entryNamed (schemaOf s) w) (rows (setNo (schemaOf s) w) (pathNo (schemaOf s) w) key))
+  rows-kept : (w : Place) (key : List ℕ) → IsPlace t w → Kept t ask w key (shown b (entryNamed t w) (rows (setNo t w) (pathNo t w) key))
   rows-kept w key p = record {
-    same = λ h ys zs f z.
-        let e = entryNamed (schemaOf s) w in
+    same = λ h ys zs r z.
+        let e = entryNamed t w in
         rw (
-          reads-one (readv outcome s b w key) (link (schemaOf s) w) ys (shown b e (rows (setNo (schemaOf s) w) (pathNo (schemaOf s) w) key)) f (reads-forward s b rows g w p key h),
-          reads-one (rdnxt outcome s b w) 0 zs (shown b e (liveRecords b e)) z (sweep-reads s b rows g w p key),
+          reads-one (readv ask w key) (link t w) ys (shown b e (rows (setNo t w) (pathNo t w) key)) r (reads-forward f d rows g w p key h),
+          reads-one (rdnxt ask w) 0 zs (shown b e (liveRecords b e)) z (sweep-reads f d rows g w p key),
         )
-        (sweep-same s b rows g w p key);
-    forward = λ h. reads-forward s b rows g w p key h;
-    backward = λ h. rw (shown-reverse b (entryNamed (schemaOf s) w) (rows (setNo (schemaOf s) w) (pathNo (schemaOf s) w) key)) at (reads-backward s b rows g w p key h);
-    sweep = (shown b (entryNamed (schemaOf s) w) (liveRecords b (entryNamed (schemaOf s) w)), sweep-reads s b rows g w p key, sweep-same s b rows g w p key);
+        (sweep-same f d rows g w p key);
+    forward = λ h. reads-forward f d rows g w p key h;
+    backward = λ h. rw (shown-reverse b (entryNamed t w) (rows (setNo t w) (pathNo t w) key)) at (reads-backward f d rows g w p key h);
+    sweep = (shown b (entryNamed t w) (liveRecords b (entryNamed t w)), sweep-reads f d rows g w p key, sweep-same f d rows g w p key);
     none = λ n. shown-starts .none w key p n;
   }
 
 -- ---- the sequence
 
--- one call
-turned-ready : (s b : List ℕ) (rows : AllRows) (g : Ready s b rows) (q : Request) → Ready s (outcome (under s b q) .base) (call-turned (under s b q) rows g .now)
-turned-ready s b rows g q = record { rules = g .rules; world = g .world; stands = call-turned (under s b q) rows g .stands }
+module _ (f : Fixed) where
+  -- what is lent stands for the rows
+  abbrev Stands : Lent → AllRows → Type 0
+  Stands d rows = Ready (f .schema) (d .base) rows
 
-module _ (s : List ℕ) where
-  quiet-run : (b : List ℕ) (rows : AllRows) → Ready s b rows → (qs : List Request) → NoDamage outcome s b qs
-  quiet-run b rows g [] = tt
-  quiet-run b rows g (q ∷ qs) = (never-damaged (under s b q) rows g, quiet-run (outcome (under s b q) .base) _ (turned-ready s b rows g q) qs)
+  -- one call
+  turned-ready : (d : Lent) (rows : AllRows) (g : Stands d rows) (q : Request) → Stands (lentAfter (outcome (under f d q))) (call-turned (under f d q) rows g .now)
+  turned-ready d rows g q = record { rules = g .rules; world = g .world; stands = call-turned (under f d q) rows g .stands }
+
+  quiet-run : (d : Lent) (rows : AllRows) → Stands d rows → (qs : List Request) → NoDamage outcome f d qs
+  quiet-run d rows g [] = tt
+  quiet-run d rows g (q ∷ qs) = (never-damaged (under f d q) rows g, quiet-run (lentAfter (outcome (under f d q))) _ (turned-ready d rows g q) qs)
 
   -- the rows at the end, and what the plain lists show there
-  abbrev Ended : List ℕ → Lists → ℕ → ℕ → Type 0
-  Ended b l i j = (rows : AllRows) × Ready s b rows × Shows (schemaOf s) b rows l i j
+  abbrev Ended : Lent → Lists → ℕ → ℕ → Type 0
+  Ended d l i j = (rows : AllRows) × Stands d rows × Shows (schemaIn f) (d .base) rows l i j
 
-  ends : (b : List ℕ) (rows : AllRows) → Ready s b rows → (qs : List Request) (l : Lists) (i j : ℕ) → IsPathOf (schemaOf s) i j → Shows (schemaOf s) b rows l i j
-      → Ended (afterCalls outcome s b qs) (plain outcome s b qs l) i j
+  ends : (d : Lent) (rows : AllRows) → Stands d rows → (qs : List Request) (l : Lists) (i j : ℕ) → IsPathOf (schemaIn f) i j → Shows (schemaIn f) (d .base) rows l i j
+      → Ended (afterCalls outcome f d qs) (plain outcome f d qs l) i j
   unfolding afterCalls plain
-  ends b rows g [] l i j p h = (rows, g, h)
-  ends b rows g (q ∷ qs) l i j p h =
-      ends (outcome (under s b q) .base) (call-turned (under s b q) rows g .now) (turned-ready s b rows g q) qs _ i j p
-      (λ key. ap (λ (m : Lists). m i j key) (sym (step-unseen s b q _ _ l)) ∙ call-turned (under s b q) rows g .shows l i j p h key)
+  ends d rows g [] l i j p h = (rows, g, h)
+  ends d rows g (q ∷ qs) l i j p h =
+      ends (lentAfter (outcome (under f d q))) (call-turned (under f d q) rows g .now) (turned-ready d rows g q) qs _ i j p
+      (λ key. ap (λ (m : Lists). m i j key) (sym (step-unseen f d q _ _ l)) ∙ call-turned (under f d q) rows g .shows l i j p h key)
 
-  run-ready : (b : List ℕ) (rows : AllRows) → Ready s b rows → (qs : List Request) → (now : AllRows) × Ready s (afterCalls outcome s b qs) now
+  run-ready : (d : Lent) (rows : AllRows) → Stands d rows → (qs : List Request) → (now : AllRows) × Stands (afterCalls outcome f d qs) now
   unfolding afterCalls
-  run-ready b rows g [] = (rows, g)
-  run-ready b rows g (q ∷ qs) = run-ready (outcome (under s b q) .base) (call-turned (under s b q) rows g .now) (turned-ready s b rows g q) qs
+  run-ready d rows g [] = (rows, g)
+  run-ready d rows g (q ∷ qs) = run-ready (lentAfter (outcome (under f d q))) (call-turned (under f d q) rows g .now) (turned-ready d rows g q) qs
 
 -- ---- the theorem
 
 pub condition-3 : Condition3 outcome
 condition-3 = record {
-  begins = λ s q rules sized. format-done (callOf (text "FORMT") noSetName 0 noPathName [] [] s q) rules sized formatting;
-  starts = λ s b h. let r = start-ready s b h in (λ i j key. shown b (entryOf (schemaOf s) i) (r .0 i j key), shown-starts s b (r .0) (r .1));
-  empty = λ s b h. shown-starts s b (λ i j key. []) (format-ready s b h);
-  quiet = λ s b qs h. let r = start-ready s b h in quiet-run s b (r .0) (r .1) qs;
-  accepted = λ s b qs h. let r = start-ready s b h in let e = run-ready s b (r .0) (r .1) qs in sign-done (callOf (text "SINON") noSetName 0 noPathName [] [] s (afterCalls outcome s b qs)) (e .0) (e .1) signing-on;
-  kept = λ s b qs l h k w key p.
-      let r = start-ready s b h in
-      let i = setNo (schemaOf s) w in
-      let j = pathNo (schemaOf s) w in
-      let e = ends s b (r .0) (r .1) qs l i j (place-path (schemaOf s) w (r .1 .world .ok) p) (starts-shown s b (r .0) (r .1) l k w p) in
-      rw (e .2 key) (rows-kept s (afterCalls outcome s b qs) (e .0) (e .1) w key p);
+  begins = λ f d h. format-done (under f d formt) (h .rules) (h .sized) formatting;
+  starts = λ f d h. let r = start-ready f d h in (λ i j key. shown (d .base) (entryOf (schemaIn f) i) (r .0 i j key), shown-starts f d (r .0) (r .1));
+  empty = λ f d h. shown-starts f d (λ i j key. []) (format-ready f d h);
+  quiet = λ f d qs h. let r = start-ready f d h in quiet-run f d (r .0) (r .1) qs;
+  accepted = λ f d qs h.
+      let r = start-ready f d h in
+      let e = run-ready f d (r .0) (r .1) qs in
+      sign-done (under f (afterCalls outcome f d qs) sinon) (e .0) (e .1) signing-on;
+  kept = λ f d qs l h k w key p.
+      let r = start-ready f d h in
+      let i = setNo (schemaIn f) w in
+      let j = pathNo (schemaIn f) w in
+      let e = ends f d (r .0) (r .1) qs l i j (place-path (schemaIn f) w (r .1 .world .ok) p) (starts-shown f d (r .0) (r .1) l k w p) in
+      rw (e .2 key) (rows-kept f (afterCalls outcome f d qs) (e .0) (e .1) w key p);
 }
 
 -- ---- every store that meets condition 2 meets condition 3

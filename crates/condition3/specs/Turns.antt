@@ -16,9 +16,9 @@ use Rattle.schema.specs.Place.{InSet}
 use Rattle.schema.specs.Guarantee.{IsPathOf}
 use Rattle.records.specs.Records.{isLive}
 use Rattle.records.specs.Areas.{areaOf, areaKeyOn, areaBody}
+use Rattle.blocks.specs.Blocks.{checkBy}
 use Rattle.plans.specs.Plan.{storeRun, committed}
-use Rattle.masters.specs.Find.{lowestFree}
-use Rattle.points.specs.Points.{addStores, delStores, spotOn}
+use Rattle.points.specs.Points.{addPlace, addStores, delStores, spotOn}
 use Rattle.chains.specs.Members.{All, all-map}
 use Rattle.points.specs.declared.Spot.{Spot}
 use Rattle.points.specs.declared.Spot.the-variants.{Last}
@@ -29,7 +29,7 @@ use Rattle.point_steps.specs.RowFacts.{row-in-set}
 use Rattle.point_steps.specs.AddSteps.{rowsAdded, add-point-step, add-area, add-keeps, add-new}
 use Rattle.point_steps.specs.DelSteps.{del-point-step, del-keeps}
 use Rattle.point_steps.specs.WriteSteps.{write-point-step, write-keeps, write-area}
-use Rattle.condition3.specs.Plain.{Point, Lists, takenOut, rewritten, setIn, entryIn, pathIn, added, inSetOf}
+use Rattle.condition3.specs.Plain.{Point, Lists, takenOut, rewritten, setIn, entryIn, pathIn, broughtBy, overwrittenBy, added, inSetOf}
 use Rattle.condition3.specs.Shown.{pointOf, shown, Ready}
 use Rattle.condition3.specs.ShownLaws.{shown-same, shown-append, taken-shown, rewritten-shown}
 
@@ -105,40 +105,40 @@ module _ (c : Call) (rows : AllRows) (g : Ready (c .schema) (c .base) rows) wher
   abbrev j : ℕ
   j = pathIn c
 
-  module _ (spot : Spot) (ok : AddTests t b n j (c .area) spot) where
+  module _ (spot : Spot) (ok : AddTests t b n j (broughtBy c) spot) where
     abbrev r : ℕ
-    r = lowestFree b e
+    r = addPlace b t e (broughtBy c) spot j
 
     abbrev a : List ℕ
-    a = committed b (addStores b t e (c .area) spot j r)
+    a = committed (checkBy (t .edition)) b (addStores b t e (broughtBy c) spot j r)
 
     -- the records of a row are not the new one, and read as they did
     others : (i k : ℕ) → IsPathOf t i k → (key : List ℕ) → shown b (entryOf t i) (rows i k key) ≡ shown a (entryOf t i) (rows i k key)
     others i k p key =
         shown-same b a (entryOf t i) (rows i k key)
-        (all-map (Mine t b i k key) _ (λ q m. add-point-step t (g .world) b rows (g .stands) n j (c .area) spot ok .areas i q (p .0) (p .1) (m .0 .0)
-        (λ s. never-both (isLive b e r) (rw (s .0, s .1) at (m .0 .1)) (add-new t (g .world) b rows (g .stands) n j (c .area) spot ok .1))) (rows i k key) (g .stands .paths i k p .mine key))
+        (all-map (Mine t b i k key) _ (λ q m. add-point-step t (g .world) b rows (g .stands) n j (broughtBy c) spot ok .areas i q (p .0) (p .1) (m .0 .0)
+        (λ s. never-both (isLive b e r) (rw (s .0, s .1) at (m .0 .1)) (add-new t (g .world) b rows (g .stands) n j (broughtBy c) spot ok .1))) (rows i k key) (g .stands .paths i k p .mine key))
 
     pub add-turned : (place : Point → List Point → List Point) → ((d : List ℕ) (f : Entry) (q : ℕ) (xs : List ℕ) → place (pointOf d f q) (shown d f xs) ≡ shown d f (inserted spot q xs))
         → Turned t b a rows (added c r place)
     add-turned place k = record {
-      now = rowsAdded t n j (c .area) spot r rows;
-      stands = add-keeps t (g .world) b rows (g .stands) n j (c .area) spot ok;
+      now = rowsAdded t n j (broughtBy c) spot r rows;
+      stands = add-keeps t (g .world) b rows (g .stands) n j (broughtBy c) spot ok;
       shows = λ l i v p h key. by l i v key (eqb i n) refl (h key ∙ others i v p key);
     }
       where
         by : (l : Lists) (i v : ℕ) (key : List ℕ) (s : Bool) → eqb i n ≡ s → l i v key ≡ shown a (entryOf t i) (rows i v key)
-            → cond (s && sameBytes key (areaKeyOn e (c .area) v)) (cond (eqb v j) (place (record { number = r; area = c .area }) (l i v key)) (l i v key ++ (record { number = r; area = c .area } ∷ []))) (l i v key)
-            ≡ shown a (entryOf t i) (cond (s && sameBytes key (areaKeyOn e (c .area) v)) (inserted (spotOn spot j v) r (rows i v key)) (rows i v key))
+            → cond (s && sameBytes key (areaKeyOn e (broughtBy c) v)) (cond (eqb v j) (place (record { number = r; area = broughtBy c }) (l i v key)) (l i v key ++ (record { number = r; area = broughtBy c } ∷ []))) (l i v key)
+            ≡ shown a (entryOf t i) (cond (s && sameBytes key (areaKeyOn e (broughtBy c) v)) (inserted (spotOn spot j v) r (rows i v key)) (rows i v key))
         by l i v key true q h =
             let z : i ≡ n = eqb-true i n q in
-            one-added a (entryOf t i) r spot (c .area) place (k a (entryOf t i) r) (rw z (add-area t (g .world) b rows (g .stands) n j (c .area) spot ok))
-            (sameBytes key (areaKeyOn e (c .area) v)) (eqb v j) (rows i v key) (l i v key) h
+            one-added a (entryOf t i) r spot (broughtBy c) place (k a (entryOf t i) r) (rw z (add-area t (g .world) b rows (g .stands) n j (broughtBy c) spot ok))
+            (sameBytes key (areaKeyOn e (broughtBy c) v)) (eqb v j) (rows i v key) (l i v key) h
         by l i v key false q h = h
 
   module _ (ok : DelTests t b n (c .reference)) where
     abbrev deleted : List ℕ
-    deleted = committed b (delStores b t e (c .reference))
+    deleted = committed (checkBy (t .edition)) b (delStores b t e (c .reference))
 
     left-areas : (i q : ℕ) → t .masters ≤ i → i < setCount t → InSet (entryOf t i) q → ((i ≡ n) × (q ≡ c .reference) → ⊥) → areaOf deleted (entryOf t i) q ≡ areaOf b (entryOf t i) q
     left-areas = del-point-step t (g .world) b rows (g .stands) n (c .reference) ok .areas
@@ -163,12 +163,12 @@ module _ (c : Call) (rows : AllRows) (g : Ready (c .schema) (c .base) rows) wher
 
   module _ (ok : WriteTests t b n (c .reference) (c .area)) where
     abbrev written : List ℕ
-    written = committed b (storeRun e (c .reference) (e .body) (areaBody e (c .area)) ∷ [])
+    written = committed (checkBy (t .edition)) b (storeRun e (c .reference) (e .body) (areaBody e (c .area)) ∷ [])
 
     kept-areas : (i q : ℕ) → t .masters ≤ i → i < setCount t → InSet (entryOf t i) q → ((i ≡ n) × (q ≡ c .reference) → ⊥) → areaOf written (entryOf t i) q ≡ areaOf b (entryOf t i) q
     kept-areas = write-point-step t (g .world) b rows (g .stands) n (c .reference) (c .area) ok .areas
 
-    pub write-turned : Turned t b written rows (inSetOf c (rewritten (c .reference) (c .area)))
+    pub write-turned : Turned t b written rows (inSetOf c (rewritten (c .reference) (overwrittenBy c)))
     write-turned = record {
       now = rows;
       stands = write-keeps t (g .world) b rows (g .stands) n (c .reference) (c .area) ok;
@@ -176,10 +176,10 @@ module _ (c : Call) (rows : AllRows) (g : Ready (c .schema) (c .base) rows) wher
     }
       where
         by : (l : Lists) (i v : ℕ) → IsPathOf t i v → (key : List ℕ) (s : Bool) → eqb i n ≡ s → l i v key ≡ shown b (entryOf t i) (rows i v key)
-            → cond s (rewritten (c .reference) (c .area) (l i v key)) (l i v key) ≡ shown written (entryOf t i) (rows i v key)
+            → cond s (rewritten (c .reference) (overwrittenBy c) (l i v key)) (l i v key) ≡ shown written (entryOf t i) (rows i v key)
         by l i v p key true q h =
             let z : i ≡ n = eqb-true i n q in
-            rw h (rewritten-shown b written (entryOf t i) (c .reference) (c .area) (rows i v key)
+            rw h (rewritten-shown b written (entryOf t i) (c .reference) (overwrittenBy c) (rows i v key)
             (rw z (write-area t (g .world) b rows (g .stands) n (c .reference) (c .area) ok))
             (all-map (InSet (entryOf t i)) _ (λ d m s. kept-areas i d (p .0) (p .1) m (λ z. s (z .1))) (rows i v key) (inside t b rows (g .stands) i v p key)))
         by l i v p key false q h =

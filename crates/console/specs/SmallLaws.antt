@@ -9,21 +9,13 @@ use lib.Seq.{take-all, take-suc-set, length-take-le, take-take, take-append-le}
 use native.Mathlib.Numerals.{add-one}
 use lib.Dec.{leb}
 use borrow.Author.Tests.{leb-true, leb-false, lt-leb}
-use Rattle.octets.specs.Octets.{halfAt, wordAt, splice, setWord, every, sameBytes, sumOnto, zeros}
-use Rattle.octets.specs.Below.{allBelow, sumBelow, countBelow, lowestFrom, concatBelow}
+use Rattle.octets.specs.Octets.{splice, zeros}
 use Rattle.octets.specs.Text.{text}
 use Rattle.terms.specs.declared.Status.the-variants.{Done}
-use Rattle.terms.specs.Operation.{operationOf}
-use Rattle.blocks.specs.Blocks.{checkOf, isSealed, seal}
-use Rattle.schema.specs.Rules.{blockRule, headRule, nameRule, masterRule, variableRule, recordsRule, pathRule, slotRule, setRule, entryRule, restRule, namesRule, clash, lettersRule, formRule}
-use Rattle.schema.specs.Layout.{linksBefore, keyPlace, linkPlace, bodyPlace, firstBlock, sizeRule, keepsRules}
-use Rattle.schema.specs.Decode.{pathFrom, entryFrom, schemaOf}
-use Rattle.plans.specs.Plan.{blocksSealed, sealBelow, formatted}
-use Rattle.calls.specs.Scene.{sceneUnder}
-use Rattle.schema.specs.Naming.{setNamed, pathNamed}
-use Rattle.calls.specs.Ladder.{refusal, ladder}
-use Rattle.calls.specs.Reply.{storesOf, baseAfter}
-use Rattle.calls.specs.Outcome.{done, outcomeIn, outcome}
+use Rattle.blocks.specs.declared.Check.the-variants.{Sum}
+use Rattle.plans.specs.Plan.{formatted}
+use Rattle.calls.specs.Opened.{opened}
+use Rattle.calls.specs.Outcome.{outcome}
 use Rattle.cases.specs.Small.{twoSets, botl, pnts, smallSchema}
 use Rattle.console.specs.Console.{responded, formatCall, KeptLine}
 
@@ -79,6 +71,6 @@ kept-enough number line schema base = go (leb (length line) 129) refl
 
 -- ---- what the program formats, 1,024 zeros, becomes the formatted store of two blocks
 
-pub formats : (outcome (formatCall (smallSchema 6) (zeros 1024)) .status ≡ Done) × (outcome (formatCall (smallSchema 6) (zeros 1024)) .base ≡ formatted 2)
-unfolding halfAt wordAt splice setWord every sameBytes sumOnto allBelow sumBelow lowestFrom concatBelow operationOf checkOf isSealed seal pathFrom entryFrom schemaOf linksBefore keyPlace linkPlace bodyPlace firstBlock sizeRule keepsRules blockRule headRule nameRule masterRule variableRule recordsRule pathRule slotRule setRule entryRule restRule namesRule clash lettersRule formRule sealBelow formatted refusal ladder done outcomeIn outcome baseAfter storesOf blocksSealed countBelow setNamed pathNamed sceneUnder twoSets smallSchema
+pub formats : (outcome (formatCall (smallSchema 6) (zeros 1024)) .status ≡ Done) × (outcome (formatCall (smallSchema 6) (zeros 1024)) .base ≡ formatted Sum 2)
+unfolding opened twoSets smallSchema
 formats = (refl, refl)

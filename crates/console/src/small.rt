@@ -1,4 +1,5 @@
 // The small store: its schema and its data base.
+use blocks::Check;
 use terms::BlockNo;
 use terms::Reference;
 ghost use mathlib.Core.Path.{_≡_};
@@ -15,7 +16,7 @@ pub fn schema() -> [u8; 512]
     octets::copy_in(&mut s, 16, b"BOTL\x01\x00\x00\x04\x00\x00\x00\x05\x04");
     octets::copy_in(&mut s, 64, b"PNTS\x02\x01\x00\x04\x00\x00\x00\x06");
     octets::copy_in(&mut s, 80, b"PT");
-    blocks::seal(&mut s, BlockNo(0));
+    blocks::seal(&mut s, BlockNo(0), Check::Sum);
     s
 }
 

@@ -13,7 +13,7 @@ use borrow.Author.Tests.{ltb-true, ltb-false, lt-ltb, le-ltb, le-leb, lt-leb, eq
 use Rattle.octets.specs.Below.{upto, countBelow, allBelow, sumBelow}
 use Rattle.octets.specs.BelowLaws.{allBelow-turn, allBelow-fails, countBelow-hit, countBelow-miss, countBelow-le, sumBelow-turn, length-upto, getD-upto, same?}
 use Rattle.octets.specs.TestLaws.{never-both}
-use Rattle.schema.specs.Fields.{mastersOf, variablesOf, setsOf, countOf, keyLengthOf, masterOf}
+use Rattle.schema.specs.Fields.{editionOf, mastersOf, variablesOf, setsOf, countOf, keyLengthOf, masterOf}
 use Rattle.schema.specs.Rules.{isPathSlot, masterOfSlot, formRule}
 use Rattle.schema.specs.Formed.{Formed}
 use Rattle.schema.specs.Layout.{linksBefore, linksTo, pathKeyLength, keyPlace, bodyPlace, lengthOf, blocksOf, firstBlock, totalBlocks, sizeRule, keepsRules}
@@ -221,7 +221,7 @@ module _ (s : List ℕ) {first : ℕ} {entries : List Entry} (d : LaidOut s (set
       rw (d .short, lt-leb (totalBlocks s) 4096 (rw (d .next) at l), and-false (formRule s)) p
 
   pub laid-all : formRule s ≡ true → first ≤ 4096
-      → record { ok = true; schema = record { masters = mastersOf s; variables = variablesOf s; blocks = first; entries = entries } } ≡ decodedOf s
+      → record { ok = true; schema = record { edition = editionOf s; masters = mastersOf s; variables = variablesOf s; blocks = first; entries = entries } } ≡ decodedOf s
   unfolding decodedOf keepsRules sizeRule schemaOf entryFrom
   laid-all f l =
       rw (f, d .short, le-leb (totalBlocks s) 4096 (rw (d .next) at l), d .next, d .made) refl

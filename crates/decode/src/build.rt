@@ -210,6 +210,7 @@ fn set(s: &[u8], i: usize, l: Links, first: u32) -> Entry
         room,
         records: octets::word(s, at + 8),
         key: s[at + 12],
+        edition: s[0],
         per,
         size,
         body,
@@ -229,6 +230,7 @@ fn no_entry() -> Entry
         room: 0,
         records: 0,
         key: 0,
+        edition: 0,
         per: 0,
         size: 0,
         body: 0,
@@ -243,6 +245,7 @@ pub(crate) fn refused() -> Decoded
 {
     let entries = [no_entry(); 8];
     let schema = Schema {
+        edition: 0,
         masters: 0,
         variables: 0,
         blocks: 0,
@@ -276,6 +279,7 @@ fn laid_out(s: &[u8], l: Links) -> Decoded
         return refused();
     }
     let schema = Schema {
+        edition: s[0],
         masters: s[1],
         variables: s[2],
         blocks: first,

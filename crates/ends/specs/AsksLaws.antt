@@ -18,8 +18,8 @@ use Rattle.masters.specs.Find.{find}
 use Rattle.calls.specs.Call.{Call, Outcome, callOf}
 use Rattle.calls.specs.Scene.{sceneUnder}
 use Rattle.calls.specs.SceneLaws.{found-here}
-use Rattle.calls.specs.Ladder.{refusal}
-use Rattle.calls.specs.Answer.{answered, seekTests, restTests}
+use Rattle.calls.specs.Ladder.{seekRungs, restRungs, refusal}
+use Rattle.calls.specs.Answer.{answered}
 use Rattle.ends.specs.Ends.{Ends}
 use Rattle.ends.specs.EndsLaws.{refused-ends}
 use Rattle.ends.specs.Asks.{Asks, placedOutcome}
@@ -92,12 +92,12 @@ module _ {c : Call} {o : Operation} {n : List ℕ} {r : ℕ} {k a b : List ℕ} 
     found-among e = rw (← h .base, ← h .key, ← e) (found-here t c)
 
     -- a test of the named master or of the referenced record refuses
-    pub seek-refuses : (s : Status) → 0 < statusNumber s → refusal (seekTests (sceneUnder t c) c) ≡ s → Ends (placedOutcome t c) s r a b
+    pub seek-refuses : (s : Status) → 0 < statusNumber s → refusal (sceneUnder t c) c seekRungs ≡ s → Ends (placedOutcome t c) s r a b
     unfolding placedOutcome
     seek-refuses s l w = given-back (refused-ends (sceneUnder t c) c _ s (rw (w, not-done s l) refl) l)
 
 -- they refuse nothing: what is left decides
-pub seek-passes : (t : Schema) (c : Call) (u : Outcome) {s : Status} {q : ℕ} {new after : List ℕ} → refusal (seekTests (sceneUnder t c) c) ≡ Done
-    → answered (sceneUnder t c) c (refusal (restTests (sceneUnder t c) c)) ≡ u → Ends u s q new after → Ends (placedOutcome t c) s q new after
+pub seek-passes : (t : Schema) (c : Call) (u : Outcome) {s : Status} {q : ℕ} {new after : List ℕ} → refusal (sceneUnder t c) c seekRungs ≡ Done
+    → answered (sceneUnder t c) c (refusal (sceneUnder t c) c (restRungs (sceneUnder t c))) ≡ u → Ends u s q new after → Ends (placedOutcome t c) s q new after
 unfolding placedOutcome
 seek-passes t c u g w v = rw (g, w) v

@@ -7,6 +7,7 @@ use lib.Dec.{eqb}
 use Rattle.terms.specs.declared.Status.{Status}
 use Rattle.terms.specs.declared.Status.the-variants.{Done, Damg}
 use Rattle.terms.specs.Status.{isDone}
+use Rattle.blocks.specs.declared.Check.{Check}
 use Rattle.schema.specs.declared.Entry.{Entry}
 use Rattle.records.specs.Areas.{areaOf}
 use Rattle.plans.specs.Plan.{Store, blocksSealed, committed}
@@ -24,11 +25,11 @@ pub record Ends (o : Outcome) (s : Status) (r : ℕ) (a b : List ℕ) : Type 0 w
 unfoldable pub gave : List ℕ → Entry → ℕ → List ℕ → Outcome
 gave b e r area = record { status = Done; reference = orEnd r; area = cond (eqb r 0) area (areaOf b e r); base = b }
 
--- stores: the status so far, the stores, the reference that a call returns where it is done
-unfoldable pub settled : Status → List ℕ → List Store → ℕ → ℕ → List ℕ → Outcome
-settled s b xs after reference area =
+-- stores: the kind of check, the status so far, the stores, the reference that a call returns where it is done
+unfoldable pub settled : Check → Status → List ℕ → List Store → ℕ → ℕ → List ℕ → Outcome
+settled k s b xs after reference area =
     cond (isDone s)
-    (cond (blocksSealed b xs)
-    (record { status = Done; reference = after; area = area; base = committed b xs })
+    (cond (blocksSealed k b xs)
+    (record { status = Done; reference = after; area = area; base = committed k b xs })
     (record { status = Damg; reference = reference; area = area; base = b }))
     (record { status = s; reference = reference; area = area; base = b })

@@ -11,6 +11,8 @@ use Rattle.terms.specs.declared.Operation.the-variants.{Formt}
 use Rattle.terms.specs.Terms.{endRef}
 use Rattle.terms.specs.Status.{statusNumber, isDone, firstOf}
 use Rattle.terms.specs.Laws.{status-number-one, not-done}
+use Rattle.blocks.specs.declared.Check.{Check}
+use Rattle.blocks.specs.Blocks.{checkBy}
 use Rattle.schema.specs.declared.Entry.{Entry}
 use Rattle.records.specs.Areas.{areaOf}
 use Rattle.plans.specs.Plan.{Store, blocksSealed, storeAll, sealAll, committed}
@@ -41,18 +43,18 @@ module _ (b : List ℕ) (e : Entry) (r : ℕ) (area : List ℕ) where
 
 -- ---- stores
 
-module _ (s : Status) (b : List ℕ) (xs : List Store) (after reference : ℕ) (area : List ℕ) where
-  pub settled-refused : {u : Status} {q : ℕ} → (statusNumber s ≡ 0 → ⊥) → u ≡ s → q ≡ reference → Ends (settled s b xs after reference area) u q area b
+module _ (d : Check) (s : Status) (b : List ℕ) (xs : List Store) (after reference : ℕ) (area : List ℕ) where
+  pub settled-refused : {u : Status} {q : ℕ} → (statusNumber s ≡ 0 → ⊥) → u ≡ s → q ≡ reference → Ends (settled d s b xs after reference area) u q area b
   unfolding settled
   settled-refused h e f = rw (ne-eqb (statusNumber s) 0 h) (record { status = e; reference = f; area = refl; base = refl })
 
-  pub settled-done : {u : Status} {q : ℕ} {new : List ℕ} {r : Bool} → statusNumber s ≡ 0 → r ≡ blocksSealed b xs → r ≡ true
-      → new ≡ cond (blocksSealed b xs) (committed b xs) b → u ≡ Done → q ≡ after → Ends (settled s b xs after reference area) u q area new
+  pub settled-done : {u : Status} {q : ℕ} {new : List ℕ} {r : Bool} → statusNumber s ≡ 0 → r ≡ blocksSealed d b xs → r ≡ true
+      → new ≡ cond (blocksSealed d b xs) (committed d b xs) b → u ≡ Done → q ≡ after → Ends (settled d s b xs after reference area) u q area new
   unfolding settled
   settled-done h k l n e f = rw (eq-eqb (statusNumber s) 0 h, ← k, l) (record { status = e; reference = f; area = refl; base = n ∙ (rw (← k, l) refl) })
 
-  pub settled-damaged : {u : Status} {q : ℕ} {new : List ℕ} {r : Bool} → statusNumber s ≡ 0 → r ≡ blocksSealed b xs → r ≡ false
-      → new ≡ cond (blocksSealed b xs) (committed b xs) b → u ≡ Damg → q ≡ reference → Ends (settled s b xs after reference area) u q area new
+  pub settled-damaged : {u : Status} {q : ℕ} {new : List ℕ} {r : Bool} → statusNumber s ≡ 0 → r ≡ blocksSealed d b xs → r ≡ false
+      → new ≡ cond (blocksSealed d b xs) (committed d b xs) b → u ≡ Damg → q ≡ reference → Ends (settled d s b xs after reference area) u q area new
   unfolding settled
   settled-damaged h k l n e f = rw (eq-eqb (statusNumber s) 0 h, ← k, l) (record { status = e; reference = f; area = refl; base = n ∙ (rw (← k, l) refl) })
 
@@ -63,31 +65,35 @@ module _ (x : Scene) (c : Call) where
   unfolding answered gave done areaAfter baseAfter committed storeAll sealAll
   gave-answers s r e g h w f = rw (e, h, g, w, f) refl
 
-  in-done : (s : Status) (xs : List Store) (after : ℕ) → s ≡ firstOf Done (storable x c) → storesOf x c ≡ xs → referenceAfter x c ≡ after → areaAfter x c ≡ c .area
-      → oneOf (x .operation) (Formt ∷ []) ≡ false → answered x c s ≡ settled Done (c .base) xs after (c .reference) (c .area)
+  in-done : (n : ℕ) (s : Status) (xs : List Store) (after : ℕ) → x .schema .edition ≡ n → s ≡ firstOf Done (storable x c) → storesOf x c ≡ xs
+      → referenceAfter x c ≡ after → areaAfter x c ≡ c .area → oneOf (x .operation) (Formt ∷ []) ≡ false
+      → answered x c s ≡ settled (checkBy n) Done (c .base) xs after (c .reference) (c .area)
   unfolding answered settled done baseAfter
-  in-done s xs after e w h a f = rw (e, h, a, w, f) (by-seal (blocksSealed (c .base) xs))
+  in-done n s xs after q e w h a f = rw (e, h, a, w, f, q) (by-seal (blocksSealed (checkBy n) (c .base) xs))
     where
-      by-seal : (d : Bool) → cond (eqb (statusNumber (cond (not d) Damg Done)) 0) (record { status = Done; reference = after; area = c .area; base = committed (c .base) xs })
+      new : List ℕ
+      new = committed (checkBy n) (c .base) xs
+
+      by-seal : (d : Bool) → cond (eqb (statusNumber (cond (not d) Damg Done)) 0) (record { status = Done; reference = after; area = c .area; base = new })
           (refused c (cond (not d) Damg Done))
-          ≡ cond d (record { status = Done; reference = after; area = c .area; base = committed (c .base) xs }) (record { status = Damg; reference = c .reference; area = c .area; base = c .base })
+          ≡ cond d (record { status = Done; reference = after; area = c .area; base = new }) (record { status = Damg; reference = c .reference; area = c .area; base = c .base })
       by-seal true = refl
       by-seal false = refl
 
-  in-refusal : (s u : Status) (xs : List Store) (after : ℕ) → s ≡ firstOf u (storable x c) → isDone u ≡ false
-      → answered x c s ≡ settled u (c .base) xs after (c .reference) (c .area)
+  in-refusal : (k : Check) (s u : Status) (xs : List Store) (after : ℕ) → s ≡ firstOf u (storable x c) → isDone u ≡ false
+      → answered x c s ≡ settled k u (c .base) xs after (c .reference) (c .area)
   unfolding answered settled
-  in-refusal s u xs after e d = rw (e, d, d) refl
+  in-refusal k s u xs after e d = rw (e, d, d) refl
 
-  -- a call that stores: u is what its tests came to but for the last, xs what it stores, `after` the reference it returns; both count only
-  -- where the call is done
-  pub settled-answers : (s u : Status) (xs : List Store) (after : ℕ) → s ≡ firstOf u (storable x c) → (u ≡ Done → storesOf x c ≡ xs)
-      → (u ≡ Done → referenceAfter x c ≡ after) → areaAfter x c ≡ c .area → oneOf (x .operation) (Formt ∷ []) ≡ false
-      → answered x c s ≡ settled u (c .base) xs after (c .reference) (c .area)
-  settled-answers s u xs after e w h a f = go (isDone u) refl
+  -- a call that stores: n is the schema's edition, u what its tests came to but for the last, xs what it stores, `after` the reference it
+  -- returns; both count only where the call is done
+  pub settled-answers : (n : ℕ) (s u : Status) (xs : List Store) (after : ℕ) → x .schema .edition ≡ n → s ≡ firstOf u (storable x c)
+      → (u ≡ Done → storesOf x c ≡ xs) → (u ≡ Done → referenceAfter x c ≡ after) → areaAfter x c ≡ c .area → oneOf (x .operation) (Formt ∷ []) ≡ false
+      → answered x c s ≡ settled (checkBy n) u (c .base) xs after (c .reference) (c .area)
+  settled-answers n s u xs after q e w h a f = go (isDone u) refl
     where
-      go : (d : Bool) → isDone u ≡ d → answered x c s ≡ settled u (c .base) xs after (c .reference) (c .area)
-      go false d = in-refusal s u xs after e d
+      go : (d : Bool) → isDone u ≡ d → answered x c s ≡ settled (checkBy n) u (c .base) xs after (c .reference) (c .area)
+      go false d = in-refusal (checkBy n) s u xs after e d
       go true d =
           let u-done : u ≡ Done = status-number-one u Done (eqb-true (statusNumber u) 0 d) in
-          rw u-done (in-done s xs after (rw u-done at e) (w u-done) (h u-done) a f)
+          rw u-done (in-done n s xs after q (rw u-done at e) (w u-done) (h u-done) a f)

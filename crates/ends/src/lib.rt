@@ -7,6 +7,7 @@ use terms::Status;
 ghost use mathlib.Core.Path.{_≡_};
 ghost use Prim.Native.Nat.{_≤_};
 ghost use lib.ListN.{length};
+ghost use Rattle.blocks.specs.Blocks.{checkBy};
 ghost use Rattle.schema.specs.Place.{LiesIn};
 ghost use Rattle.records.specs.Areas.{areaLength};
 ghost use Rattle.terms.specs.declared.Status.the-variants.{Done};
@@ -60,7 +61,7 @@ pub fn settle(
     requires { ⌜ LiesIn e (length (now base)) ⌝ }
     requires { ⌜ Fields e ⌝ }
     requires { ⌜ (planned .status ≡ Done → PlanOk (length (now base)) e (planned .plan) × AreaOk (planned .plan .head) e (now area)) ⌝ }
-    ensures { λ a. ⌜ Ends (settled (planned .status) (now (base .entry)) (planStores (now (base .entry)) e (now (area .entry)) (planned .plan)) (after .0) (reference .0) (now (area .entry))) (a .status) (a .reference .0) (now (area .entry)) (now (base .exit)) ⌝ }
+    ensures { λ a. ⌜ Ends (settled (checkBy (e .edition)) (planned .status) (now (base .entry)) (planStores (now (base .entry)) e (now (area .entry)) (planned .plan)) (after .0) (reference .0) (now (area .entry))) (a .status) (a .reference .0) (now (area .entry)) (now (base .exit)) ⌝ }
 {
     let status = planned.status;
     if status.number() != 0 {

@@ -9,8 +9,9 @@ use lib.ListN.{length, length-replicate}
 use lib.Seq.{drop-length}
 use Rattle.octets.specs.Octets.{run, splice, word4, setWord, zeros, sumOnto}
 use Rattle.octets.specs.SpliceLaws.{splice-eq, run-zeros}
-use Rattle.blocks.specs.Blocks.{blockAt, checkAt, checkOf, seal}
-use Rattle.blocks.specs.Laws.{run-seal}
+use Rattle.blocks.specs.declared.Check.{Check}
+use Rattle.blocks.specs.Blocks.{blockAt, checkAt, seal}
+use Rattle.blocks.specs.Laws.{run-seal, checkOf-zeros}
 use Rattle.plans.specs.Plan.{sealBelow, formatted}
 
 pub length-zeros : (b : List ℕ) (n : ℕ) → b ≡ zeros n → length b ≡ n
@@ -23,51 +24,32 @@ zeros-whole b n h =
     splice-eq b 0 (zeros (length b)) (omega arith) ∙ (rw (l, drop-length b) (append-nil (zeros (length b)))) ∙ ap zeros h
 
 -- before the first turn no check is set
-pub seals-begin : (b : List ℕ) → b ≡ sealBelow 0 b
+pub seals-begin : (k : Check) (b : List ℕ) → b ≡ sealBelow k 0 b
 unfolding sealBelow
-seals-begin b = refl
+seals-begin k b = refl
 
 -- a turn sets the next one
-pub seals-turn : (b x y : List ℕ) (i : ℕ) → x ≡ sealBelow i b → y ≡ seal x i → y ≡ sealBelow (i + 1) b
+pub seals-turn : (k : Check) (b x y : List ℕ) (i : ℕ) → x ≡ sealBelow k i b → y ≡ seal k x i → y ≡ sealBelow k (i + 1) b
 unfolding sealBelow
-seals-turn b x y i h k = k ∙ rw (add-one, h) refl
+seals-turn k b x y i h e = e ∙ rw (add-one, h) refl
 
 -- behind the last turn all n are set
-pub seals-end : (b x : List ℕ) (n i : ℕ) → b ≡ zeros (n * 512) → x ≡ sealBelow i b → i ≤ n → n ≤ i → x ≡ formatted n
+pub seals-end : (k : Check) (b x : List ℕ) (n i : ℕ) → b ≡ zeros (n * 512) → x ≡ sealBelow k i b → i ≤ n → n ≤ i → x ≡ formatted k n
 unfolding formatted
-seals-end b x n i e h p q = let j : i ≡ n = omega arith in h ∙ rw (j, e) refl
+seals-end k b x n i e h p q = let j : i ≡ n = omega arith in h ∙ rw (j, e) refl
 
 -- ---- the check of a block of zeros is the block's number
 
-lower : (a : ℕ) → a < 4294967296 → a % 4294967296 ≡ a
-lower a h = mod-eq-of-lt h
-
-sum-zeros : (k n acc : ℕ) → n ≡ k * 4 → acc < 4294967296 → sumOnto acc (zeros n) ≡ acc
-unfolding sumOnto
-sum-zeros zero zero acc e h = refl
-sum-zeros zero (suc n) acc e h = absurd (omega arith)
-sum-zeros (suc k) zero acc e h = refl
-sum-zeros (suc k) (suc zero) acc e h = refl
-sum-zeros (suc k) (suc (suc zero)) acc e h = refl
-sum-zeros (suc k) (suc (suc (suc zero))) acc e h = refl
-sum-zeros (suc k) (suc (suc (suc (suc n)))) acc e h =
-    let z : (acc + word4 0 0 0 0) % 4294967296 ≡ acc = lower (acc + word4 0 0 0 0) (omega arith) ∙ omega arith in
-    rw z (sum-zeros k n acc (omega arith) h)
-
-zero-check : (n : ℕ) → n < 4294967296 → checkOf (zeros 512) n ≡ n
-unfolding checkOf
-zero-check n h = ap (sumOnto n) (run-zeros 512 0 508 (omega arith)) ∙ sum-zeros 127 508 n refl h
-
--- so it is stored as it is
-pub zero-seal : (b : List ℕ) (n : ℕ) → run b (blockAt n) 512 ≡ zeros 512 → n < 4294967296 → setWord b (checkAt n) n ≡ seal b n
+-- it is stored as it is
+pub zero-seal : (k : Check) (b : List ℕ) (n : ℕ) → run b (blockAt n) 512 ≡ zeros 512 → n < 4294967296 → setWord b (checkAt n) n ≡ seal k b n
 unfolding seal
-zero-seal b n z h = rw (z, zero-check n h) refl
+zero-seal k b n z h = rw (z, checkOf-zeros k n h) refl
 
 -- a block whose check is not set yet is all zero
-run-sealBelow : (i : ℕ) (b : List ℕ) (a m : ℕ) → i * 512 ≤ a → run (sealBelow i b) a m ≡ run b a m
+run-sealBelow : (k : Check) (i : ℕ) (b : List ℕ) (a m : ℕ) → i * 512 ≤ a → run (sealBelow k i b) a m ≡ run b a m
 unfolding sealBelow
-run-sealBelow zero b a m h = refl
-run-sealBelow (suc i) b a m h = run-seal (sealBelow i b) i a m (λ p q. omega arith) ∙ run-sealBelow i b a m (omega arith)
+run-sealBelow k zero b a m h = refl
+run-sealBelow k (suc i) b a m h = run-seal k (sealBelow k i b) i a m (λ p q. omega arith) ∙ run-sealBelow k i b a m (omega arith)
 
-pub still-zero : (b x : List ℕ) (n i : ℕ) → b ≡ zeros (n * 512) → x ≡ sealBelow i b → i < n → run x (blockAt i) 512 ≡ zeros 512
-still-zero b x n i e h l = rw (h, e) (run-sealBelow i (zeros (n * 512)) (i * 512) 512 (omega arith) ∙ run-zeros (n * 512) (i * 512) 512 (omega arith))
+pub still-zero : (k : Check) (b x : List ℕ) (n i : ℕ) → b ≡ zeros (n * 512) → x ≡ sealBelow k i b → i < n → run x (blockAt i) 512 ≡ zeros 512
+still-zero k b x n i e h l = rw (h, e) (run-sealBelow k i (zeros (n * 512)) (i * 512) 512 (omega arith) ∙ run-zeros (n * 512) (i * 512) 512 (omega arith))

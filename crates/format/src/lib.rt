@@ -4,6 +4,7 @@ ghost use mathlib.Core.Path.{_≡_};
 ghost use Prim.Native.Nat.{_*_, _≤_};
 ghost use lib.ListN.{length};
 ghost use Rattle.octets.specs.Octets.{run, zeros};
+ghost use Rattle.blocks.specs.declared.Check.{Check};
 ghost use Rattle.blocks.specs.Blocks.{HasBlock, blockAt, seal};
 ghost use Rattle.plans.specs.Plan.{formatted};
 
@@ -16,11 +17,11 @@ fn clear(base: &mut [u8], blocks: u32)
     octets::zero(base, 0, n);
 }
 
-// The check of a block of zeros is the block's number: no word needs to be summed.
+// The check of a block of zeros is the block's number, of whatever kind it is: no word needs to be summed.
 fn seal_zeros(base: &mut [u8], n: BlockNo)
     requires { ⌜ HasBlock (now base) (n .0) ⌝ }
     requires { ⌜ run (now base) (blockAt (n .0)) 512 ≡ zeros 512 ⌝ }
-    ensures { λ _. ⌜ now (base .exit) ≡ seal (now (base .entry)) (n .0) ⌝ }
+    ensures { λ _. ⌜ ((k : Check) → now (base .exit) ≡ seal k (now (base .entry)) (n .0)) ⌝ }
 {
     blocks::put_check(base, n, n.0);
 }
@@ -28,7 +29,7 @@ fn seal_zeros(base: &mut [u8], n: BlockNo)
 // "and sets the checks": block by block, of a data base that is all zero.
 fn set_checks(base: &mut [u8], blocks: u32)
     requires { ⌜ now base ≡ zeros (blocks * 512) ⌝ }
-    ensures { λ _. ⌜ now (base .exit) ≡ formatted blocks ⌝ }
+    ensures { λ _. ⌜ ((k : Check) → now (base .exit) ≡ formatted k blocks) ⌝ }
 {
     let mut i: u32 = 0;
     while i < blocks {
@@ -37,10 +38,10 @@ fn set_checks(base: &mut [u8], blocks: u32)
     }
 }
 
-// The data base as FORMT leaves it.
+// The data base as FORMT leaves it, under every kind of check.
 pub fn format(base: &mut [u8], blocks: u32)
     requires { ⌜ (length (now base) ≡ blocks * 512) × (blocks ≤ 4096) ⌝ }
-    ensures { λ _. ⌜ now (base .exit) ≡ formatted blocks ⌝ }
+    ensures { λ _. ⌜ ((k : Check) → now (base .exit) ≡ formatted k blocks) ⌝ }
 {
     clear(base, blocks);
     set_checks(base, blocks);

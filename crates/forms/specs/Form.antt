@@ -2,7 +2,7 @@
 -- and path are known. Which of them a call has is its rungs; the order is the ladder's.
 use Prim.Native.Nat.{ℕ}
 use mathlib.Core.Bool.{cond, not, _&&_, _||_, Bool}
-use mathlib.Core.List.{List, [], _∷_}
+use mathlib.Core.List.{List}
 use lib.Dec.{eqb, leb}
 use lib.ListN.{length}
 use Rattle.octets.specs.Octets.{allBlank}
@@ -10,26 +10,25 @@ use Rattle.terms.specs.Terms.{endRef}
 use Rattle.terms.specs.declared.Status.{Status}
 use Rattle.terms.specs.declared.Status.the-variants.{Done, Area, Klen, Bctl, Keys, Ivrp}
 use Rattle.terms.specs.declared.Operation.{Operation}
-use Rattle.terms.specs.declared.Operation.the-variants.{Formt, Sinon, AddM, DelM, Writm, Rqloc, Rdnxt, Readv, Readr, Readd, Writv, Addvc, Addvb, Addva, Delvd}
 use Rattle.schema.specs.declared.Entry.{Entry}
 use Rattle.schema.specs.Place.{inSet}
 use Rattle.records.specs.Areas.{areaLength}
-use Rattle.calls.specs.Call.{oneOf, adds}
-use Rattle.calls.specs.Ladder.{blankAreaKey, otherAreaKey}
+use Rattle.calls.specs.Ladder.{blankAreaKey, otherAreaKey, ruleOf}
+use Rattle.calls.specs.Ladder.Rung.{AreaLength, KeyLength, AreaKeysTold, AreaKeySame, ReadForm, SweepForm, LastForm, NumberForm}
 use Rattle.forms.specs.declared.Rungs.{Rungs}
 
 -- the tests that an operation has
 abbrev pub rungsOf : Operation → Rungs
 rungsOf o =
     record {
-      area = not (oneOf o (Formt ∷ Sinon ∷ DelM ∷ Delvd ∷ Rqloc ∷ []));
-      key = not (oneOf o (Formt ∷ Sinon ∷ Rdnxt ∷ []));
-      blank = oneOf o (AddM ∷ adds);
-      same = oneOf o (AddM ∷ Writm ∷ adds);
-      link = oneOf o (Readv ∷ Readr ∷ []);
-      sweep = oneOf o (Rdnxt ∷ []);
-      last = oneOf o (Addvc ∷ []);
-      number = oneOf o (Readd ∷ Writv ∷ Addvb ∷ Addva ∷ Delvd ∷ []);
+      area = ruleOf AreaLength .asked o;
+      key = ruleOf KeyLength .asked o;
+      blank = ruleOf AreaKeysTold .asked o;
+      same = ruleOf AreaKeySame .asked o;
+      link = ruleOf ReadForm .asked o;
+      sweep = ruleOf SweepForm .asked o;
+      last = ruleOf LastForm .asked o;
+      number = ruleOf NumberForm .asked o;
     }
 
 -- 11, "Forms for 11", by the tests q that the call has

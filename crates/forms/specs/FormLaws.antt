@@ -11,27 +11,27 @@ use borrow.Author.Tests.{eqb-true, eq-eqb, ne-eqb, ltb-true, not-false}
 use Rattle.octets.specs.Octets.{allBlank, sameBytes}
 use Rattle.octets.specs.Below.{allBelow}
 use Rattle.octets.specs.BelowLaws.{allBelow-fails}
-use Rattle.octets.specs.TestLaws.{never-both}
+use Rattle.octets.specs.TestLaws.{never-both, asked}
+use Rattle.octets.specs.TestLaws as tests
 use Rattle.terms.specs.declared.Status.{Status}
 use Rattle.terms.specs.declared.Status.the-variants.{Done, Area, Klen, Ivrp}
 use Rattle.terms.specs.declared.Operation.{Operation}
-use Rattle.terms.specs.declared.Operation.the-variants.{Formt, Sinon, AddM, DelM, Readm, Writm, Rqloc, Rdnxt, Readv, Readr, Readd, Writv, Addvc, Addvb, Addva, Delvd, Unknown}
 use Rattle.schema.specs.declared.Entry.{Entry}
 use Rattle.schema.specs.Decode.{pathOf}
 use Rattle.records.specs.Records.{keyOn}
 use Rattle.records.specs.Areas.{isMaster, areaLength, areaMasterKey, areaKeyOn}
-use Rattle.calls.specs.Call.{Call, oneOf, variableCalls}
+use Rattle.calls.specs.Call.{Call, oneOf, masterCalls, variableCalls}
+use Rattle.calls.specs.OperationLaws.{each-operation, all-of}
 use Rattle.calls.specs.Scene.{Scene}
 use Rattle.schema.specs.Naming.{linkOf}
-use Rattle.calls.specs.Answer.{formTests}
-use Rattle.calls.specs.Ladder.{refusal, wrongKind, blankAreaKey, otherAreaKey, otherStoredKey}
+use Rattle.calls.specs.Ladder.{wrongKind, blankAreaKey, otherAreaKey, otherStoredKey, formRungs, refusal}
 use Rattle.forms.specs.declared.Rungs.{Rungs}
 use Rattle.forms.specs.Form.{rungsOf, referenceStatus, formStatus, decided, wrongReference}
 
 -- ---- the ladder
 
 pub form-tests : (x : Scene) (c : Call)
-    → refusal (formTests x c) ≡ formStatus (x .operation) (x .entry) (x .on) (linkOf (x .path)) (x .masters .key) (c .reference) (c .key) (c .area)
+    → refusal x c formRungs ≡ formStatus (x .operation) (x .entry) (x .on) (linkOf (x .path)) (x .masters .key) (c .reference) (c .key) (c .area)
 unfolding refusal formStatus
 form-tests x c = refl
 
@@ -56,65 +56,24 @@ module _ (o : Operation) (e : Entry) (k ref : ℕ) (key area : List ℕ) where
 pub on-path : (o : Operation) (e : Entry) (on : ℕ) → wrongKind o e ≡ false → (oneOf o variableCalls && not (ltb on (e .count))) ≡ false
     → isMaster e ≡ false → rungsOf o .same ≡ true → on < e .count
 unfolding wrongKind
-on-path AddM e on k p v h = absurd (never-both true refl (rw v at k))
-on-path Writm e on k p v h = absurd (never-both true refl (rw v at k))
-on-path Addvc e on k p v h = ltb-true on (e .count) (not-false (ltb on (e .count)) p)
-on-path Addvb e on k p v h = ltb-true on (e .count) (not-false (ltb on (e .count)) p)
-on-path Addva e on k p v h = ltb-true on (e .count) (not-false (ltb on (e .count)) p)
-on-path Formt e on k p v h = absurd (never-both false h refl)
-on-path Sinon e on k p v h = absurd (never-both false h refl)
-on-path DelM e on k p v h = absurd (never-both false h refl)
-on-path Readm e on k p v h = absurd (never-both false h refl)
-on-path Rqloc e on k p v h = absurd (never-both false h refl)
-on-path Rdnxt e on k p v h = absurd (never-both false h refl)
-on-path Readv e on k p v h = absurd (never-both false h refl)
-on-path Readr e on k p v h = absurd (never-both false h refl)
-on-path Readd e on k p v h = absurd (never-both false h refl)
-on-path Writv e on k p v h = absurd (never-both false h refl)
-on-path Delvd e on k p v h = absurd (never-both false h refl)
-on-path Unknown e on k p v h = absurd (never-both false h refl)
+on-path o e on k p v h =
+    let m : oneOf o masterCalls ≡ false = asked-with (oneOf o masterCalls) (not (isMaster e)) (tests.neither (oneOf o masterCalls && not (isMaster e)) _ k .0) (rw v refl) in
+    let q = all-of (λ u. rungsOf u .same) (λ u. oneOf u masterCalls || oneOf u variableCalls) refl o h in
+    let u : oneOf o variableCalls ≡ true = rw m at q in
+    ltb-true on (e .count) (not-false (ltb on (e .count)) (asked (oneOf o variableCalls) _ p u))
+  where
+    asked-with : (a b : Bool) → (a && b) ≡ false → b ≡ true → a ≡ false
+    asked-with true b h e = absurd (never-both b e h)
+    asked-with false b h e = refl
 
 -- ---- how the code asks
 
--- who tests the area's keys has tested the area's length
-pub asks-area : (o : Operation) → (rungsOf o .area || not (rungsOf o .blank || rungsOf o .same)) ≡ true
-asks-area Formt = refl
-asks-area Sinon = refl
-asks-area AddM = refl
-asks-area DelM = refl
-asks-area Readm = refl
-asks-area Writm = refl
-asks-area Rqloc = refl
-asks-area Rdnxt = refl
-asks-area Readv = refl
-asks-area Readr = refl
-asks-area Readd = refl
-asks-area Writv = refl
-asks-area Addvc = refl
-asks-area Addvb = refl
-asks-area Addva = refl
-asks-area Delvd = refl
-asks-area Unknown = refl
+-- who tests the area's keys has tested the area's length, and the control key's
+asks-area : (o : Operation) → (rungsOf o .area || not (rungsOf o .blank || rungsOf o .same)) ≡ true
+asks-area o = each-operation (λ u. rungsOf u .area || not (rungsOf u .blank || rungsOf u .same)) refl o
 
--- and the control key's
 pub asks-key : (o : Operation) → (rungsOf o .key || not (rungsOf o .blank || rungsOf o .same)) ≡ true
-asks-key Formt = refl
-asks-key Sinon = refl
-asks-key AddM = refl
-asks-key DelM = refl
-asks-key Readm = refl
-asks-key Writm = refl
-asks-key Rqloc = refl
-asks-key Rdnxt = refl
-asks-key Readv = refl
-asks-key Readr = refl
-asks-key Readd = refl
-asks-key Writv = refl
-asks-key Addvc = refl
-asks-key Addvb = refl
-asks-key Addva = refl
-asks-key Delvd = refl
-asks-key Unknown = refl
+asks-key o = each-operation (λ u. rungsOf u .key || not (rungsOf u .blank || rungsOf u .same)) refl o
 
 -- so an area whose keys are asked for has its length
 asked-fits : (ar x ft : Bool) → (ar || not x) ≡ true → (ar && not ft) ≡ false → x ≡ true → ft ≡ true

@@ -10,6 +10,7 @@ use lib.ListN.{length}
 use Rattle.octets.specs.Octets.{wordBytes}
 use Rattle.octets.specs.Below.{concatBelow}
 use Rattle.octets.specs.BelowLaws.{same?}
+use Rattle.blocks.specs.declared.Check.{Check}
 use Rattle.blocks.specs.Blocks.{seal}
 use Rattle.blocks.specs.Laws.{run-seal}
 use Rattle.schema.specs.declared.Schema.{Schema}
@@ -104,42 +105,42 @@ module _ {t : Schema} (ok : SchemaOk t) where
     record-left (whole k q ys) c h m = recordOf-putRecord-other c k q ys ok h n r l in-set m
     record-left (fill k q ys) c h m = recordOf-putRun-other c (address k q body) n r ok l in-set m ys (h .0) (h .1)
 
-    record-seal : (c : List ℕ) (k : ℕ) → recordOf (seal c k) (entryOf t n) r ≡ recordOf c (entryOf t n) r
-    record-seal c k =
-        run-seal c k (placeOf (entryOf t n) r) (entryOf t n .size) (λ p q. inside-off-checks n r 0 (entryOf t n .size) ok (l, in-set, omega arith) k (omega arith) (omega arith))
+    record-seal : (j : Check) (c : List ℕ) (k : ℕ) → recordOf (seal j c k) (entryOf t n) r ≡ recordOf c (entryOf t n) r
+    record-seal j c k =
+        run-seal j c k (placeOf (entryOf t n) r) (entryOf t n .size) (λ p q. inside-off-checks n r 0 (entryOf t n .size) ok (l, in-set, omega arith) k (omega arith) (omega arith))
 
 -- ---- what the commit leaves
 
 module _ {t : Schema} (ok : SchemaOk t) (b : List ℕ) (sized : length b ≡ 512 * t .blocks) where
   pub length-after : (ds : List Deed) → length (after t b ds) ≡ length b
-  length-after ds = length-committed b (storesFor t ds)
+  length-after ds = length-committed _ b (storesFor t ds)
 
   -- ---- a word
 
   pub word-missed : (ds : List Deed) (a : Address) → AllValid t ds → WordField t a → Misses a ds → getWord t (after t b ds) a ≡ getWord t b a
   word-missed ds a v ia m =
-      kept t (Miss a) (Misses a) (λ d ds h. h) (λ c. getWord t c a) (λ c k. getWord-seal c k a ok ia) (word-left ok a ia) b ds sized v m
+      kept t (Miss a) (Misses a) (λ d ds h. h) (λ c. getWord t c a) (λ c k. getWord-seal _ c k a ok ia) (word-left ok a ia) b ds sized v m
 
   -- the one that a deed stores
   pub word-pointed : (us : List Deed) (a : Address) (v : ℕ) (vs : List Deed) → AllValid t (us ++ point a v ∷ vs) → Misses a vs
       → getWord t (after t b (us ++ point a v ∷ vs)) a ≡ v
   word-pointed us a v vs h m =
       let w = valid-at t us (point a v) vs h .0 in
-      put t (Miss a) (Misses a) (λ d ds h. h) (λ c. getWord t c a) (λ c k. getWord-seal c k a ok (w .0)) (word-left ok a (w .0)) b us (point a v) vs v sized h m
+      put t (Miss a) (Misses a) (λ d ds h. h) (λ c. getWord t c a) (λ c k. getWord-seal _ c k a ok (w .0)) (word-left ok a (w .0)) b us (point a v) vs v sized h m
       (λ c e. rw (putRun-word t c a v) (getWord-putWord c a v ok e (w .0) (w .1)))
 
   -- ---- a run
 
   pub run-missed : (ds : List Deed) (a : Address) → AllValid t ds → IsAddress t a → Misses a ds → getRun t (after t b ds) a ≡ getRun t b a
   run-missed ds a v ia m =
-      kept t (Miss a) (Misses a) (λ d ds h. h) (λ c. getRun t c a) (λ c k. getRun-seal c k a ok ia) (run-left ok a ia) b ds sized v m
+      kept t (Miss a) (Misses a) (λ d ds h. h) (λ c. getRun t c a) (λ c k. getRun-seal _ c k a ok ia) (run-left ok a ia) b ds sized v m
 
   pub run-filled : (us : List Deed) (n r : ℕ) (ys : List ℕ) (vs : List Deed) → AllValid t (us ++ fill n r ys ∷ vs) → Misses (address n r body) vs
       → getRun t (after t b (us ++ fill n r ys ∷ vs)) (address n r body) ≡ ys
   run-filled us n r ys vs h m =
       let w = valid-at t us (fill n r ys) vs h .0 in
       let a = address n r body in
-      put t (Miss a) (Misses a) (λ d ds h. h) (λ c. getRun t c a) (λ c k. getRun-seal c k a ok (w .0)) (run-left ok a (w .0)) b us (fill n r ys) vs ys sized h m
+      put t (Miss a) (Misses a) (λ d ds h. h) (λ c. getRun t c a) (λ c k. getRun-seal _ c k a ok (w .0)) (run-left ok a (w .0)) b us (fill n r ys) vs ys sized h m
       (λ c e. getRun-putRun c a ys ok e (w .0) (w .1))
 
   -- ---- a state
@@ -148,18 +149,18 @@ module _ {t : Schema} (ok : SchemaOk t) (b : List ℕ) (sized : length b ≡ 512
       → isLive (after t b ds) (entryOf t n) r ≡ isLive b (entryOf t n) r
   live-missed ds n r v l i m =
       ap (λ (x : ℕ). eqb x 1)
-      (kept t (Spared n r) (AllSpared n r) (λ d ds h. h) (λ c. stateOf c (entryOf t n) r) (λ c k. stateOf-seal c n r ok l i k) (state-left ok n r l i) b ds sized v m)
+      (kept t (Spared n r) (AllSpared n r) (λ d ds h. h) (λ c. stateOf c (entryOf t n) r) (λ c k. stateOf-seal c n r ok l i _ k) (state-left ok n r l i) b ds sized v m)
 
   -- ---- a whole record
 
   pub record-missed : (ds : List Deed) (n r : ℕ) → AllValid t ds → n < setCount t → InSet (entryOf t n) r → AllOff n r ds
       → recordOf (after t b ds) (entryOf t n) r ≡ recordOf b (entryOf t n) r
   record-missed ds n r v l i m =
-      kept t (Off n r) (AllOff n r) (λ d ds h. h) (λ c. recordOf c (entryOf t n) r) (record-seal ok n r l i) (record-left ok n r l i) b ds sized v m
+      kept t (Off n r) (AllOff n r) (λ d ds h. h) (λ c. recordOf c (entryOf t n) r) (record-seal ok n r l i _) (record-left ok n r l i) b ds sized v m
 
   pub record-whole : (us : List Deed) (n r : ℕ) (ys : List ℕ) (vs : List Deed) → AllValid t (us ++ whole n r ys ∷ vs) → AllOff n r vs
       → recordOf (after t b (us ++ whole n r ys ∷ vs)) (entryOf t n) r ≡ ys
   record-whole us n r ys vs h m =
       let w = valid-at t us (whole n r ys) vs h .0 in
-      put t (Off n r) (AllOff n r) (λ d ds h. h) (λ c. recordOf c (entryOf t n) r) (record-seal ok n r (w .0) (w .1)) (record-left ok n r (w .0) (w .1))
+      put t (Off n r) (AllOff n r) (λ d ds h. h) (λ c. recordOf c (entryOf t n) r) (record-seal ok n r (w .0) (w .1) _) (record-left ok n r (w .0) (w .1))
       b us (whole n r ys) vs ys sized h m (λ c e. recordOf-putRecord c n r ys ok w e)

@@ -11,6 +11,7 @@ use Rattle.records.specs.Address.{Address, IsAddress, addressAt, body}
 use Rattle.records.specs.AddressLaws.{address}
 use Rattle.records.specs.FieldLaws.{WordField, Fills}
 use Rattle.records.specs.WholeRecords.{IsWhole, Elsewhere}
+use Rattle.blocks.specs.Blocks.{checkBy}
 use Rattle.plans.specs.Plan.{Store, storeRun, storeRecord, committed}
 
 pub data Deed : Type 0 where
@@ -31,7 +32,7 @@ storesFor t (d ∷ ds) = storeOf t d ∷ storesFor t ds
 
 -- the data base after the deeds, checks set
 abbrev pub after : Schema → List ℕ → List Deed → List ℕ
-after t b ds = committed b (storesFor t ds)
+after t b ds = committed (checkBy (t .edition)) b (storesFor t ds)
 
 -- a deed at an address of the schema, of the address's length
 abbrev pub Valid : Schema → Deed → Type 0

@@ -8,7 +8,8 @@ use native.Mathlib.Omega.{arith}
 use native.Mathlib.Nat.{mul-le-mul-right, min-le-left}
 use Rattle.octets.specs.Octets.{Apart, run, allZero}
 use Rattle.octets.specs.TestLaws.{never-both}
-use Rattle.blocks.specs.Blocks.{checkAt}
+use Rattle.blocks.specs.declared.Check.{Check}
+use Rattle.blocks.specs.Blocks.{checkAt, checkBy}
 use Rattle.schema.specs.declared.Schema.{Schema}
 use Rattle.schema.specs.Decode.{entryOf, pathOf, setCount}
 use Rattle.schema.specs.Place.{placeOf, leftoverAt, leftoverSize}
@@ -26,8 +27,8 @@ use Rattle.kept_state.specs.Rows.{World, PathRows, Represents}
 use Rattle.kept_state.specs.SettleLaws.{zero-run, clean-holds}
 
 -- a run off the checks is zero
-fresh-run : (n a m : ℕ) → ((k : ℕ) → Apart (checkAt k) 4 a m) → allZero (run (formatted n) a m) ≡ true
-fresh-run n a m h = zero-run (formatted n) a m (λ i l. formatted-zero n (a + i) (λ k _ p q. h k (omega arith) (omega arith)))
+fresh-run : (c : Check) (n a m : ℕ) → ((k : ℕ) → Apart (checkAt k) 4 a m) → allZero (run (formatted c n) a m) ≡ true
+fresh-run c n a m h = zero-run (formatted c n) a m (λ i l. formatted-zero c n (a + i) (λ k _ p q. h k (omega arith) (omega arith)))
 
 module _ {t : Schema} (ok : SchemaOk t) where
   -- records and the room behind them are off the checks
@@ -40,36 +41,36 @@ module _ {t : Schema} (ok : SchemaOk t) where
       omega (arith, ok .set n l .whole, mul-le-mul-right (e .size) (min-le-left (e .per) (e .records - k * e .per)))
 
   -- no record is live: a state that is 0 is not 1
-  none-live : (n r : ℕ) → n < setCount t → isLive (formatted (t .blocks)) (entryOf t n) r ≡ false
+  none-live : (n r : ℕ) → n < setCount t → isLive (formatted (checkBy (t .edition)) (t .blocks)) (entryOf t n) r ≡ false
   none-live n r l =
       let four = record-least t ok n l in
-      rw (formatted-zero (t .blocks) (placeOf (entryOf t n) r) (λ k m p q. in-block n r l k (omega arith) (omega arith))) refl
+      rw (formatted-zero (checkBy (t .edition)) (t .blocks) (placeOf (entryOf t n) r) (λ k m p q. in-block n r l k (omega arith) (omega arith))) refl
 
-  never-live : (n r : ℕ) → n < setCount t → Live (formatted (t .blocks)) (entryOf t n) r → ⊥
+  never-live : (n r : ℕ) → n < setCount t → Live (formatted (checkBy (t .edition)) (t .blocks)) (entryOf t n) r → ⊥
   never-live n r l v = never-both _ (v .1) (none-live n r l)
 
   -- clean sets, sound masters, empty rows
-  fresh-clean : (n : ℕ) → n < setCount t → setClean (formatted (t .blocks)) (entryOf t n) ≡ true
+  fresh-clean : (n : ℕ) → n < setCount t → setClean (formatted (checkBy (t .edition)) (t .blocks)) (entryOf t n) ≡ true
   unfolding recordClean leftoverClean
   fresh-clean n l =
       let e = entryOf t n in
-      clean-holds (formatted (t .blocks)) e
-      (λ r i. rw (none-live n r l) (fresh-run (t .blocks) (placeOf e r) (e .size) (in-block n r l)))
-      (λ k m. fresh-run (t .blocks) (leftoverAt e k) (leftoverSize e k) (leftover-in-block n k l))
+      clean-holds (formatted (checkBy (t .edition)) (t .blocks)) e
+      (λ r i. rw (none-live n r l) (fresh-run (checkBy (t .edition)) (t .blocks) (placeOf e r) (e .size) (in-block n r l)))
+      (λ k m. fresh-run (checkBy (t .edition)) (t .blocks) (leftoverAt e k) (leftoverSize e k) (leftover-in-block n k l))
 
-  fresh-home : (n h : ℕ) → n < setCount t → HomeChain (formatted (t .blocks)) (entryOf t n) h
+  fresh-home : (n h : ℕ) → n < setCount t → HomeChain (formatted (checkBy (t .edition)) (t .blocks)) (entryOf t n) h
   unfolding homeList
   fresh-home n h l = record { linked = rw (none-live n h l) refl; only = rw (none-live n h l) tt; full = λ r o. absurd (never-live n r l (o .0)) }
 
-  fresh-masters : (n : ℕ) → n < setCount t → MasterSet (formatted (t .blocks)) (entryOf t n)
+  fresh-masters : (n : ℕ) → n < setCount t → MasterSet (formatted (checkBy (t .edition)) (t .blocks)) (entryOf t n)
   fresh-masters n l =
       record {
         no-blank = λ r v. absurd (never-live n r l v);
         one = λ q r v w k. absurd (never-live n q l v);
-        homes = λ h i. homeSound-holds (formatted (t .blocks)) (entryOf t n) h (fresh-home n h l);
+        homes = λ h i. homeSound-holds (formatted (checkBy (t .edition)) (t .blocks)) (entryOf t n) h (fresh-home n h l);
       }
 
-  fresh-path : (i j : ℕ) → IsPathOf t i j → PathRows t (formatted (t .blocks)) i j (λ key. [])
+  fresh-path : (i j : ℕ) → IsPathOf t i j → PathRows t (formatted (checkBy (t .edition)) (t .blocks)) i j (λ key. [])
   fresh-path i j h =
       record {
         no-blank = λ r v. absurd (never-live i r (h .1) v);
@@ -79,11 +80,11 @@ module _ {t : Schema} (ok : SchemaOk t) where
         full = λ r v. absurd (never-live i r (h .1) v);
       }
 
-pub format-represents : (t : Schema) → World t → Represents t (formatted (t .blocks)) (λ i j key. [])
+pub format-represents : (t : Schema) → World t → Represents t (formatted (checkBy (t .edition)) (t .blocks)) (λ i j key. [])
 format-represents t w =
     record {
-      sized = omega (arith, length-formatted (t .blocks));
-      sealed = formatted-sealed (t .blocks);
+      sized = omega (arith, length-formatted (checkBy (t .edition)) (t .blocks));
+      sealed = formatted-sealed (checkBy (t .edition)) (t .blocks);
       clean = fresh-clean (w .ok);
       masters = λ n l. fresh-masters (w .ok) n (omega arith);
       paths = fresh-path (w .ok);

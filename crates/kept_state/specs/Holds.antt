@@ -6,7 +6,7 @@ use mathlib.Core.List.{List, [], _∷_, _++_}
 use lib.ListN.{length}
 use Rattle.octets.specs.Octets.{splice}
 use Rattle.octets.specs.SpliceLaws.{length-splice}
-use Rattle.blocks.specs.Blocks.{seal}
+use Rattle.blocks.specs.Blocks.{checkBy, seal}
 use Rattle.schema.specs.declared.Schema.{Schema}
 use Rattle.plans.specs.Plan.{Store, storeAll, sealAll, committed}
 use Rattle.kept_state.specs.Deeds.{Deed, storeOf, storesFor, after, Valid, AllValid}
@@ -23,12 +23,12 @@ valid-at t (u ∷ us) d vs h = valid-at t us d vs (h .1)
 -- R says S of each deed of a list
 module _ (t : Schema) (S : Deed → Type 0) (R : List Deed → Type 0) (parts : (d : Deed) (ds : List Deed) → R (d ∷ ds) → S d × R ds) where
   -- I is kept by sealing and by each deed of which S is true, in data bases that are as long as the schema says
-  module _ (I : List ℕ → Type 0) (sealing : (c : List ℕ) (k : ℕ) → I c → I (seal c k))
+  module _ (I : List ℕ → Type 0) (sealing : (c : List ℕ) (k : ℕ) → I c → I (seal (checkBy (t .edition)) c k))
       (step : (d : Deed) (c : List ℕ) → Valid t d → S d → length c ≡ 512 * t .blocks → I c → I (deedDone t c d)) where
-    all-sealed : (xs : List Store) (c : List ℕ) → I c → I (sealAll c xs)
+    all-sealed : (xs : List Store) (c : List ℕ) → I c → I (sealAll (checkBy (t .edition)) c xs)
     unfolding sealAll
     all-sealed [] c h = h
-    all-sealed (x ∷ xs) c h = all-sealed xs (seal c _) (sealing c _ h)
+    all-sealed (x ∷ xs) c h = all-sealed xs (seal (checkBy (t .edition)) c _) (sealing c _ h)
 
     all-stored : (ds : List Deed) (c : List ℕ) → length c ≡ 512 * t .blocks → AllValid t ds → R ds → I c → I (storeAll c (storesFor t ds))
     unfolding storeAll
@@ -54,7 +54,7 @@ module _ (t : Schema) (S : Deed → Type 0) (R : List Deed → Type 0) (parts : 
         all-sealed (storesFor t (us ++ d ∷ vs)) (storeAll b (storesFor t (us ++ d ∷ vs))) (stored-from us d vs b e (valid-at t us d vs v .1) q h)
 
   -- a reading that neither sealing nor any deed of which S is true changes
-  module _ {X : Type 0} (g : List ℕ → X) (sealing : (c : List ℕ) (k : ℕ) → g (seal c k) ≡ g c)
+  module _ {X : Type 0} (g : List ℕ → X) (sealing : (c : List ℕ) (k : ℕ) → g (seal (checkBy (t .edition)) c k) ≡ g c)
       (step : (d : Deed) (c : List ℕ) → Valid t d → S d → g (deedDone t c d) ≡ g c) where
     pub kept : (b : List ℕ) (ds : List Deed) → length b ≡ 512 * t .blocks → AllValid t ds → R ds → g (after t b ds) ≡ g b
     kept b ds e v q = holds (λ c. g c ≡ g b) (λ c k h. sealing c k ∙ h) (λ d c w s l h. step d c w s ∙ h) b ds e v q refl

@@ -7,7 +7,7 @@ use mathlib.Core.List.{List, [], _∷_, _++_}
 use lib.Dec.{eqb}
 use lib.ListN.{length}
 use Rattle.octets.specs.Octets.{allBlank}
-use Rattle.blocks.specs.Blocks.{isSealed}
+use Rattle.blocks.specs.Blocks.{checkBy, isSealed}
 use Rattle.schema.specs.declared.Schema.{Schema}
 use Rattle.schema.specs.Decode.{entryOf, pathOf, setCount, mastersOn}
 use Rattle.schema.specs.Guarantee.{SchemaOk, IsPathOf}
@@ -51,7 +51,7 @@ pub record PathRows (t : Schema) (b : List ℕ) (i j : ℕ) (rows : List ℕ →
 -- the data base stands for the rows
 pub record Represents (t : Schema) (b : List ℕ) (rows : ℕ → ℕ → List ℕ → List ℕ) : Type 0 where
   pub sized : length b ≡ 512 * t .blocks
-  pub sealed : (k : ℕ) → k < t .blocks → isSealed b k ≡ true
+  pub sealed : (k : ℕ) → k < t .blocks → isSealed (checkBy (t .edition)) b k ≡ true
   pub clean : (n : ℕ) → n < setCount t → setClean b (entryOf t n) ≡ true
   pub masters : (n : ℕ) → n < t .masters → MasterSet b (entryOf t n)
   pub paths : (i j : ℕ) → IsPathOf t i j → PathRows t b i j (rows i j)

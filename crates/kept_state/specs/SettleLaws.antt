@@ -13,7 +13,8 @@ use Rattle.octets.specs.SpliceLaws.{getD-run, getD-zeros}
 use Rattle.octets.specs.RunLaws.{every-all, allZero-zeros, allZero-eq}
 use Rattle.octets.specs.Below.{allBelow}
 use Rattle.octets.specs.BelowLaws.{allBelow-at, allBelow-all}
-use Rattle.blocks.specs.Blocks.{isSealed}
+use Rattle.blocks.specs.declared.Check.{Check}
+use Rattle.blocks.specs.Blocks.{checkBy, isSealed}
 use Rattle.schema.specs.declared.Entry.{Entry}
 use Rattle.schema.specs.declared.Schema.{Schema}
 use Rattle.schema.specs.Decode.{entryOf, setCount}
@@ -63,12 +64,12 @@ clean-holds b e f g =
     (eachRecord-all e (recordClean b e) f, allBelow-all (leftoverClean b e) (blocksHeld e) g)
 
 -- stores that fit go into blocks of the base
-stores-sealed : (b : List ℕ) (xs : List Store) (n : ℕ) → length b ≡ 512 * n → AllFit (length b) xs → ((k : ℕ) → k < n → isSealed b k ≡ true)
-    → blocksSealed b xs ≡ true
+stores-sealed : (c : Check) (b : List ℕ) (xs : List Store) (n : ℕ) → length b ≡ 512 * n → AllFit (length b) xs → ((k : ℕ) → k < n → isSealed c b k ≡ true)
+    → blocksSealed c b xs ≡ true
 unfolding blocksSealed
-stores-sealed b [] n e f h = refl
-stores-sealed b (x ∷ xs) n e f h =
-    and-eq-true-iff (isSealed b (storeBlock x)) (blocksSealed b xs) .1 (h (storeBlock x) (omega (arith, f .0 .whole)), stores-sealed b xs n e (f .1) h)
+stores-sealed c b [] n e f h = refl
+stores-sealed c b (x ∷ xs) n e f h =
+    and-eq-true-iff (isSealed c b (storeBlock x)) (blocksSealed c b xs) .1 (h (storeBlock x) (omega (arith, f .0 .whole)), stores-sealed c b xs n e (f .1) h)
 
 module _ {t : Schema} (ok : SchemaOk t) (b : List ℕ) (sized : length b ≡ 512 * t .blocks) where
   -- ---- checks
@@ -87,12 +88,12 @@ module _ {t : Schema} (ok : SchemaOk t) (b : List ℕ) (sized : length b ≡ 512
   fits-after [] h = tt
   fits-after (d ∷ ds) h = (deed-fits d (h .0), fits-after ds (h .1))
 
-  pub deeds-storable : (ds : List Deed) → AllValid t ds → ((k : ℕ) → k < t .blocks → isSealed b k ≡ true) → blocksSealed b (storesFor t ds) ≡ true
-  deeds-storable ds v h = stores-sealed b (storesFor t ds) (t .blocks) sized (fits-after ds v) h
+  pub deeds-storable : (ds : List Deed) → AllValid t ds → ((k : ℕ) → k < t .blocks → isSealed (checkBy (t .edition)) b k ≡ true) → blocksSealed (checkBy (t .edition)) b (storesFor t ds) ≡ true
+  deeds-storable ds v h = stores-sealed _ b (storesFor t ds) (t .blocks) sized (fits-after ds v) h
 
-  pub sealed-after : (ds : List Deed) → AllValid t ds → ((k : ℕ) → k < t .blocks → isSealed b k ≡ true)
-      → (k : ℕ) → k < t .blocks → isSealed (after t b ds) k ≡ true
-  sealed-after ds v h k l = committed-sealed b (storesFor t ds) k (omega arith) (fits-after ds v) (h k l)
+  pub sealed-after : (ds : List Deed) → AllValid t ds → ((k : ℕ) → k < t .blocks → isSealed (checkBy (t .edition)) b k ≡ true)
+      → (k : ℕ) → k < t .blocks → isSealed (checkBy (t .edition)) (after t b ds) k ≡ true
+  sealed-after ds v h k l = committed-sealed _ b (storesFor t ds) k (omega arith) (fits-after ds v) (h k l)
 
   -- ---- free records
 
@@ -146,7 +147,7 @@ module _ {t : Schema} (ok : SchemaOk t) (b : List ℕ) (sized : length b ≡ 512
 
     filler-after : (ds : List Deed) → AllValid t ds → AllZeroed ds → setClean b (entryOf t n) ≡ true → allZero (fillerOf (after t b ds) (entryOf t n) r) ≡ true
     filler-after ds v z c =
-        holds t Zeroed AllZeroed (λ d ds h. h) (λ c. allZero (fillerOf c (entryOf t n) r) ≡ true) (λ c k h. rw (fillerOf-seal n r ok l in-set c k) h) filler-kept b ds sized v z
+        holds t Zeroed AllZeroed (λ d ds h. h) (λ c. allZero (fillerOf c (entryOf t n) r) ≡ true) (λ c k h. rw (fillerOf-seal n r ok l in-set c _ k) h) filler-kept b ds sized v z
         (filler-zero c)
 
   -- ---- leftovers
@@ -160,7 +161,7 @@ module _ {t : Schema} (ok : SchemaOk t) (b : List ℕ) (sized : length b ≡ 512
   leftover-after : (ds : List Deed) (n k : ℕ) → AllValid t ds → n < setCount t → k < blocksHeld (entryOf t n)
       → leftoverOf (after t b ds) (entryOf t n) k ≡ leftoverOf b (entryOf t n) k
   leftover-after ds n k v l m =
-      kept t (λ d. Unit {0}) (λ ds. Unit {0}) (λ d ds h. (tt, tt)) (λ c. leftoverOf c (entryOf t n) k) (λ c j. leftoverOf-seal n k ok l m c j)
+      kept t (λ d. Unit {0}) (λ ds. Unit {0}) (λ d ds h. (tt, tt)) (λ c. leftoverOf c (entryOf t n) k) (λ c j. leftoverOf-seal n k ok l m _ c j)
       (λ d c w u. leftover-kept n k l m d c w) b ds sized v tt
 
   -- ---- clean sets stay clean, if the records that are free afterwards are zero

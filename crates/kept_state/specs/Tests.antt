@@ -10,7 +10,8 @@ use Rattle.schema.specs.Decode.{entryOf, pathOf, setCount}
 use Rattle.schema.specs.Guarantee.{IsPathOf}
 use Rattle.records.specs.Records.{keyOn}
 use Rattle.records.specs.Areas.{areaLength, areaMasterKey, areaKeyOn}
-use Rattle.masters.specs.Find.{find, homeIn, recordFound, isAt, isMissing, lowestFree}
+use Rattle.scan.specs.Scan.{isFull}
+use Rattle.masters.specs.Find.{find, homeIn, recordFound, isAt, isMissing}
 use Rattle.masters.specs.Root.{addMasterFull}
 use Rattle.points.specs.Chains.{hasPoints}
 use Rattle.points.specs.Points.{findOn}
@@ -52,7 +53,7 @@ pub record AddTests (t : Schema) (b : List ℕ) (i named : ℕ) (area : List ℕ
   pub no-blank : (k : ℕ) → k < entryOf t i .count → allBlank (areaKeyOn (entryOf t i) area k) ≡ false
   pub found : (k : ℕ) → k < entryOf t i .count → isAt (findOn b t (entryOf t i) k (areaKeyOn (entryOf t i) area k)) ≡ true
   pub spot-ok : SpotOk t b i named area spot
-  pub room : lowestFree b (entryOf t i) ≤ entryOf t i .records
+  pub room : isFull b (entryOf t i) ≡ false
 
 -- DELVD of record r of set i
 pub record DelTests (t : Schema) (b : List ℕ) (i r : ℕ) : Type 0 where

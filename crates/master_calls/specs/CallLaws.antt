@@ -16,6 +16,7 @@ use Rattle.records.specs.Areas.{areaLength}
 use Rattle.plans.specs.declared.Head.{Head}
 use Rattle.plans.specs.declared.Head.the-variants.{Nothing, Body, Master, Variable, Stranger, Synonym}
 use Rattle.plans.specs.declared.Planned.{Planned}
+use Rattle.blocks.specs.Blocks.{checkBy}
 use Rattle.plans.specs.Plan.{Store, storeAll, sealAll, committed}
 use Rattle.plans.specs.Stores.{planStores}
 use Rattle.plans.specs.PlanOk.{AreaOk}
@@ -32,8 +33,8 @@ use Rattle.calls.specs.Call.{Call}
 use Rattle.calls.specs.Scene.{Scene, sceneUnder}
 use Rattle.calls.specs.Reply.{masterIn, homeOfKey, given, referenceAfter, areaAfter, storesOf, baseAfter}
 use Rattle.calls.specs.Outcome.{done}
-use Rattle.calls.specs.Ladder.{refusal}
-use Rattle.calls.specs.Answer.{answered, restTests}
+use Rattle.calls.specs.Ladder.{restRungs, refusal}
+use Rattle.calls.specs.Answer.{answered}
 use Rattle.terms.specs.Status.{firstOf}
 use Rattle.terms.specs.Laws.{two-first}
 use Rattle.calls.specs.RestLaws.{storable, rest-readm, rest-writm, rest-addm, rest-delm, rest-rqloc}
@@ -60,10 +61,10 @@ module _ (o : Operation) (k : NamedCall o) (e : Entry) (r : ℕ) (key area b : L
 
 module _ (e : Entry) (r : ℕ) (key area b : List ℕ) (m : RecordNo) where
   readm-gives : (x : Scene) (c : Call) → x .operation ≡ Readm → x .entry ≡ e → x .found ≡ At m → c .base ≡ b → c .area ≡ area
-      → answered x c (refusal (restTests x c)) ≡ gave b e (m .0) area
+      → answered x c (refusal x c (restRungs x)) ≡ gave b e (m .0) area
   unfolding given referenceAfter storesOf
   readm-gives x c o w f hb ha =
-      rw (← hb, ← ha, ← w) (gave-answers x c (refusal (restTests x c)) (m .0) (rest-readm x c o) (rw (o, f) refl) (rw (o, f) refl) (rw o refl) (rw o refl))
+      rw (← hb, ← ha, ← w) (gave-answers x c (refusal x c (restRungs x)) (m .0) (rest-readm x c o) (rw (o, f) refl) (rw (o, f) refl) (rw o refl) (rw o refl))
 
   pub readm-ends : {s : Status} {q : ℕ} {new : List ℕ} → find b e key ≡ At m → Ends (gave b e (m .0) area) s q new b → AnswersOn Readm e r key area b s q new b
   readm-ends g w =
@@ -91,21 +92,21 @@ any-head Synonym e area l = tt
 -- ---- WRITM
 
 module _ (e : Entry) (r : ℕ) (key area b : List ℕ) (m : RecordNo) where
-  writm-settles : (x : Scene) (c : Call) (p : Planned) → p ≡ bodyPlanned m → x .operation ≡ Writm → x .entry ≡ e → x .found ≡ At m → c .base ≡ b → c .area ≡ area → c .reference ≡ r
-      → answered x c (refusal (restTests x c)) ≡ settled (p .status) b (planStores b e area (p .plan)) r r area
+  writm-settles : (x : Scene) (c : Call) (p : Planned) → p ≡ bodyPlanned m → x .operation ≡ Writm → x .schema .edition ≡ e .edition → x .entry ≡ e → x .found ≡ At m → c .base ≡ b → c .area ≡ area → c .reference ≡ r
+      → answered x c (refusal x c (restRungs x)) ≡ settled (checkBy (e .edition)) (p .status) b (planStores b e area (p .plan)) r r area
   unfolding given referenceAfter areaAfter storesOf
-  writm-settles x c p d o w f hb ha hr =
+  writm-settles x c p d o v w f hb ha hr =
       rw (d, body-stores e area m b, ← hb, ← ha, ← hr, ← w)
-      (settled-answers x c (refusal (restTests x c)) Done _ (c .reference) (rest-writm x c o)
+      (settled-answers x c _ (refusal x c (restRungs x)) Done _ (c .reference) (rw w v) (rest-writm x c o)
       (λ _. rw (o, f) refl) (λ _. rw o refl) (rw o refl) (rw o refl))
 
   pub writm-ends : {p : Planned} {s : Status} {q : ℕ} {after : List ℕ} → find b e key ≡ At m → p ≡ bodyPlanned m
-      → Ends (settled (p .status) b (planStores b e area (p .plan)) r r area) s q area after → AnswersOn Writm e r key area b s q area after
+      → Ends (settled (checkBy (e .edition)) (p .status) b (planStores b e area (p .plan)) r r area) s q area after → AnswersOn Writm e r key area b s q area after
   writm-ends {p = p} g d w =
       record {
         told = λ t c n h at.
             found-ends t c n Writm e r key area b writm-call h at m _ g
-            (writm-settles (sceneUnder t c) c p d (operation-here t c ∙ h .operation) (at .entry) (found-among h t (at .masters) ∙ g) (h .base) (h .area) (h .reference)) w;
+            (writm-settles (sceneUnder t c) c p d (operation-here t c ∙ h .operation) (at .edition) (at .entry) (found-among h t (at .masters) ∙ g) (h .base) (h .area) (h .reference)) w;
       }
 
 -- ---- ADD-M
@@ -118,25 +119,25 @@ module _ (e : Entry) (r : ℕ) (key area b : List ℕ) where
   by-presence m g = record { told = λ t c n h at. there-ends t c n e r key area b h at m g }
 
   addm-settles : (x : Scene) (c : Call) (u : Status) (xs : List Store) → u ≡ addMasterStatus b e (homeIn e key) → (u ≡ Done → xs ≡ addMasterStores b e (homeIn e key) area)
-      → x .operation ≡ AddM → x .entry ≡ e → x .masters ≡ e → c .key ≡ key → c .base ≡ b → c .area ≡ area → c .reference ≡ r
-      → answered x c (refusal (restTests x c)) ≡ settled u b xs r r area
+      → x .operation ≡ AddM → x .schema .edition ≡ e .edition → x .entry ≡ e → x .masters ≡ e → c .key ≡ key → c .base ≡ b → c .area ≡ area → c .reference ≡ r
+      → answered x c (refusal x c (restRungs x)) ≡ settled (checkBy (e .edition)) u b xs r r area
   unfolding given referenceAfter areaAfter storesOf addMasterStatus
-  addm-settles x c u xs us ws o w m hk hb ha hr =
+  addm-settles x c u xs us ws o n w m hk hb ha hr =
       let v : u ≡ addMasterStatus (c .base) (x .entry) (homeOfKey x c) = rw (w, m, hk, hb) us in
       rw (← hb, ← ha, ← hr)
-      (settled-answers x c (refusal (restTests x c)) u xs (c .reference)
+      (settled-answers x c (e .edition) (refusal x c (restRungs x)) u xs (c .reference) n
       (rest-addm x c o ∙ two-first (addMasterFull (c .base) (x .entry) (homeOfKey x c)) (addMasterDamaged (c .base) (x .entry) (homeOfKey x c)) Full Damg (storable x c) (omega arith) (omega arith)
       ∙ ap (λ v. firstOf v (storable x c)) (sym v))
       (λ d. rw (o, w, m, hk, hb, ha) (sym (ws d))) (λ _. rw o refl) (rw o refl) (rw o refl))
 
   pub addm-ends : (p : Planned) {home : ℕ} {s : Status} {q : ℕ} {after : List ℕ} → find b e key ≡ Missing → home ≡ homeIn e key → p .status ≡ addMasterStatus b e home
       → (p .status ≡ Done → planStores b e area (p .plan) ≡ addMasterStores b e home area)
-      → Ends (settled (p .status) b (planStores b e area (p .plan)) r r area) s q area after → AnswersOn AddM e r key area b s q area after
+      → Ends (settled (checkBy (e .edition)) (p .status) b (planStores b e area (p .plan)) r r area) s q area after → AnswersOn AddM e r key area b s q area after
   addm-ends p g l us ws w =
       record {
         told = λ t c n h at.
             absent-ends t c n e r key area b h at _ g
-            (addm-settles (sceneUnder t c) c (p .status) (planStores b e area (p .plan)) (rw l at us) (rw l at ws) (operation-here t c ∙ h .operation) (at .entry) (at .masters)
+            (addm-settles (sceneUnder t c) c (p .status) (planStores b e area (p .plan)) (rw l at us) (rw l at ws) (operation-here t c ∙ h .operation) (at .edition) (at .entry) (at .masters)
             (h .key) (h .base) (h .area) (h .reference)) w;
       }
 
@@ -151,13 +152,13 @@ module _ (t : Schema) (n : ℕ) (e : Entry) (r : ℕ) (key area b : List ℕ) wh
 
   delm-settles : (x : Scene) (c : Call) (m : RecordNo) (u : Status) (xs : List Store) → u ≡ delMasterStatus t b n e (homeIn e key) (m .0)
       → (u ≡ Done → xs ≡ delMasterStores b e (homeIn e key) (m .0))
-      → x .schema ≡ t → x .number ≡ n → x .operation ≡ DelM → x .entry ≡ e → x .masters ≡ e → x .found ≡ At m → c .key ≡ key → c .base ≡ b → c .area ≡ area → c .reference ≡ r
-      → answered x c (refusal (restTests x c)) ≡ settled u b xs r r area
+      → x .schema ≡ t → x .number ≡ n → x .operation ≡ DelM → x .schema .edition ≡ e .edition → x .entry ≡ e → x .masters ≡ e → x .found ≡ At m → c .key ≡ key → c .base ≡ b → c .area ≡ area → c .reference ≡ r
+      → answered x c (refusal x c (restRungs x)) ≡ settled (checkBy (e .edition)) u b xs r r area
   unfolding given referenceAfter areaAfter storesOf delMasterStatus
-  delm-settles x c m u xs us ws xt xn o w ms f hk hb ha hr =
+  delm-settles x c m u xs us ws xt xn o ed w ms f hk hb ha hr =
       let v : u ≡ delMasterStatus (x .schema) (c .base) (x .number) (x .entry) (homeOfKey x c) (masterIn x) = rw (xt, xn, w, ms, f, hk, hb) us in
       rw (← hb, ← ha, ← hr)
-      (settled-answers x c (refusal (restTests x c)) u xs (c .reference)
+      (settled-answers x c (e .edition) (refusal x c (restRungs x)) u xs (c .reference) ed
       (rest-delm x c o
       ∙ two-first (hasPoints (x .schema) (c .base) (x .number) (masterIn x)) (delMasterDamaged (c .base) (x .entry) (homeOfKey x c) (masterIn x)) Imdl Damg (storable x c) (omega arith) (omega arith)
       ∙ ap (λ v. firstOf v (storable x c)) (sym v))
@@ -165,19 +166,19 @@ module _ (t : Schema) (n : ℕ) (e : Entry) (r : ℕ) (key area b : List ℕ) wh
 
   pub delm-ends : (p : Planned) (m : RecordNo) {home : ℕ} {s : Status} {q : ℕ} {after : List ℕ} → find b e key ≡ At m → home ≡ homeIn e key
       → p .status ≡ delMasterStatus t b n e home (m .0) → (p .status ≡ Done → planStores b e area (p .plan) ≡ delMasterStores b e home (m .0))
-      → Ends (settled (p .status) b (planStores b e area (p .plan)) r r area) s q area after → AnswersIn t n DelM e r key area b s q area after
+      → Ends (settled (checkBy (e .edition)) (p .status) b (planStores b e area (p .plan)) r r area) s q area after → AnswersIn t n DelM e r key area b s q area after
   delm-ends p m g l us ws w =
       record {
         told = λ c h at.
             found-ends t c n DelM e r key area b delm-call h at m _ g
             (delm-settles (sceneUnder t c) c m (p .status) (planStores b e area (p .plan)) (rw l at us) (rw l at ws) (schema-here t c) (at .number) (operation-here t c ∙ h .operation)
-            (at .entry) (at .masters) (found-among h t (at .masters) ∙ g) (h .key) (h .base) (h .area) (h .reference)) w;
+            (at .edition) (at .entry) (at .masters) (found-among h t (at .masters) ∙ g) (h .key) (h .base) (h .area) (h .reference)) w;
       }
 
 -- ---- RQLOC
 
 module _ (e : Entry) (r : ℕ) (key area b : List ℕ) where
-  rqloc-gives : (x : Scene) (c : Call) → x .operation ≡ Rqloc → x .masters ≡ e → c .key ≡ key → c .base ≡ b → c .area ≡ area → Ends (answered x c (refusal (restTests x c))) Done (homeIn e key) area b
+  rqloc-gives : (x : Scene) (c : Call) → x .operation ≡ Rqloc → x .masters ≡ e → c .key ≡ key → c .base ≡ b → c .area ≡ area → Ends (answered x c (refusal x c (restRungs x))) Done (homeIn e key) area b
   unfolding answered done given referenceAfter areaAfter storesOf baseAfter committed storeAll sealAll
   rqloc-gives x c o m hk hb ha =
       rw (rest-rqloc x c o, o, ← m, ← hk, ← hb, ← ha) (record { status = refl; reference = refl; area = refl; base = refl })

@@ -7,15 +7,16 @@ use lib.Dec.{ltb}
 use lib.ListN.{length}
 use Rattle.terms.specs.declared.Status.{Status}
 use Rattle.terms.specs.declared.Status.the-variants.{Done, Fntf, Kind}
+use Rattle.terms.specs.Status.{firstOf}
 use Rattle.terms.specs.declared.Operation.{Operation}
-use Rattle.terms.specs.declared.Operation.the-variants.{Formt, Sinon, AddM, DelM, Readm, Writm}
+use Rattle.terms.specs.declared.Operation.the-variants.{AddM}
 use Rattle.schema.specs.declared.Entry.{Entry}
 use Rattle.schema.specs.declared.Schema.{Schema}
 use Rattle.schema.specs.Decode.{entryOf, setCount}
 use Rattle.records.specs.Areas.{isMaster, areaLength}
-use Rattle.calls.specs.Call.{Call, oneOf, masterCalls, variableCalls}
+use Rattle.calls.specs.Call.{Call, oneOf, masterCalls, variableCalls, wholeCalls}
 use Rattle.calls.specs.Scene.{sceneUnder}
-use Rattle.calls.specs.Ladder.{finders}
+use Rattle.calls.specs.Ladder.{finders, needers}
 use Rattle.forms.specs.Form.{rungsOf, formStatus}
 use Rattle.master_calls.specs.declared.Placed.{Placed}
 use Rattle.ends.specs.Ends.{Ends}
@@ -25,7 +26,7 @@ use Rattle.ends.specs.Asks.{Asks, placedStatus, placedOutcome}
 
 -- a call on masters: the tests that it has and those that it has not
 pub record MasterCall (o : Operation) : Type 0 where
-  pub on-set : oneOf o (Formt ∷ Sinon ∷ []) ≡ false
+  pub on-set : oneOf o wholeCalls ≡ false
   pub of-masters : oneOf o masterCalls ≡ true
   pub of-no-path : oneOf o variableCalls ≡ false
   pub of-no-link : rungsOf o .link ≡ false
@@ -35,7 +36,7 @@ pub record MasterCall (o : Operation) : Type 0 where
 pub record NamedCall (o : Operation) : Type 0 where
   pub call : MasterCall o
   pub finds : oneOf o finders ≡ true
-  pub needs-it : oneOf o (DelM ∷ Readm ∷ Writm ∷ variableCalls) ≡ true
+  pub needs-it : oneOf o needers ≡ true
   pub adds-none : oneOf o (AddM ∷ []) ≡ false
   pub of-no-number : rungsOf o .number ≡ false
 
@@ -53,13 +54,23 @@ pub record OnSet (t : Schema) (c : Call) (n : ℕ) (e : Entry) : Type 0 where
   pub number : sceneUnder t c .number ≡ n
   pub entry : sceneUnder t c .entry ≡ e
   pub masters : sceneUnder t c .masters ≡ e
+  pub edition : sceneUnder t c .schema .edition ≡ e .edition
 
--- 4 to 11 by form, on set number i: a number that no set has is refused, with the schema's first set in its place
-abbrev pub placedAt : Schema → Operation → ℕ → ℕ → List ℕ → List ℕ → Placed
-placedAt t o i r key area =
+-- 4 and 5, on set number i: a number that no set has is refused, with the schema's first set in its place
+abbrev pub placedAt : Schema → ℕ → Placed
+placedAt t i =
     cond (ltb i (setCount t))
-    (record { status = cond (isMaster (entryOf t i)) (formStatus o (entryOf t i) 0 0 (entryOf t i .key) r key area) Kind; number = record { 0 = i }; entry = entryOf t i })
+    (record { status = cond (isMaster (entryOf t i)) Done Kind; number = record { 0 = i }; entry = entryOf t i })
     (record { status = Fntf; number = record { 0 = 0 }; entry = entryOf t 0 })
+
+-- and 7 to 11 by form there
+abbrev pub formedIn : Operation → Placed → ℕ → List ℕ → List ℕ → Placed
+formedIn o p r key area =
+    record {
+      status = firstOf (p .status) (formStatus o (p .entry) 0 0 (p .entry .key) r key area);
+      number = p .number;
+      entry = p .entry;
+    }
 
 -- what every call that asks with these parameters has come to
 pub record Places (t : Schema) (o : Operation) (n : List ℕ) (r : ℕ) (k a : List ℕ) (p : Placed) : Type 0 where

@@ -24,9 +24,12 @@ ghost use lib.ListN.{length};
 ghost use Rattle.terms.specs.declared.Operation.the-variants.{AddM, DelM, Readm, Writm, Rqloc};
 ghost use Rattle.schema.specs.Decode.{entryOf};
 ghost use Rattle.schema.specs.Naming.{setNamed};
-ghost use Rattle.records.specs.Areas.{areaLength};
+ghost use Rattle.records.specs.Areas.{isMaster, areaLength};
+ghost use Rattle.records.specs.Fields.{Fields};
+ghost use Rattle.terms.specs.declared.Status.the-variants.{Done};
+ghost use mathlib.Core.Bool.{true};
 ghost use Rattle.records.specs.InBase.{Laid, IsMasterSet};
-ghost use Rattle.master_calls.specs.Masters.{MasterCall, placedAt, AnswersOn, AnswersIn};
+ghost use Rattle.master_calls.specs.Masters.{placedAt, formedIn, AnswersOn, AnswersIn};
 
 // The set that a call on masters speaks of, where the status is Done.
 pub struct Placed {
@@ -35,19 +38,11 @@ pub struct Placed {
     pub entry: Entry,
 }
 
-// 4 to 11 by form, of a call on masters.
-pub fn find_set(
-    t: Schema,
-    o: Operation,
-    set: &[u8],
-    reference: Reference,
-    key: &[u8],
-    area: &[u8],
-) -> Placed
+// 4 and 5, of a call on masters.
+pub fn find_set(t: Schema, set: &[u8]) -> Placed
     requires { ⌜ Laid t (512 * t .blocks) ⌝ }
-    requires { ⌜ MasterCall o ⌝ }
     requires { ⌜ length (now set) ≡ 4 ⌝ }
-    ensures { λ p. ⌜ p ≡ placedAt t o (setNamed t (now (set .entry))) (reference .0) (now (key .entry)) (now (area .entry)) ⌝ }
+    ensures { λ p. ⌜ p ≡ placedAt t (setNamed t (now (set .entry))) ⌝ }
 {
     let n = names::set_named(t, set);
     if sets(t) <= n.0 {
@@ -65,6 +60,24 @@ pub fn find_set(
             entry: e,
         };
     }
+    Placed {
+        status: Status::Done,
+        number: n,
+        entry: e,
+    }
+}
+
+// 7 to 11 by form, where nothing before has refused.
+pub fn with_forms(p: Placed, o: Operation, reference: Reference, key: &[u8], area: &[u8]) -> Placed
+    requires { ⌜ (p .status ≡ Done → Fields (p .entry) × (isMaster (p .entry) ≡ true)) ⌝ }
+    ensures { λ q. ⌜ q ≡ formedIn o p (reference .0) (now (key .entry)) (now (area .entry)) ⌝ }
+{
+    let before = p.status;
+    if before.number() != 0 {
+        return p;
+    }
+    let n = p.number;
+    let e = p.entry;
     let status = forms::form_status(o, e, 0, 0, e.key, reference.0, key, area);
     Placed {
         status,

@@ -15,8 +15,9 @@ use Rattle.records.specs.Records.{isLive, rootNext, rootPrior}
 use Rattle.plans.specs.declared.Head.the-variants.{Master, Stranger}
 use Rattle.plans.specs.declared.Plan.{Plan}
 use Rattle.plans.specs.Plan.{Store}
-use Rattle.masters.specs.Find.{ownHome, heldByOwn, tailFrom, lowestFree}
-use Rattle.masters.specs.FindLaws.{lowestFree-in, lowestFree-free}
+use Rattle.scan.specs.Scan.{lowestFree}
+use Rattle.masters.specs.Find.{ownHome, heldByOwn, tailFrom}
+use Rattle.scan.specs.ScanLaws.{lowestFree-in, lowestFree-free}
 use Rattle.masters.specs.Root.{badRoot, rootPriorSide, rootNextSide, addAtHome, addSynonym, addForStranger, addMasterFull, addMasterDamaged, addMasterStores}
 use Rattle.master_plans.specs.Status.{addMasterStatus}
 use Rattle.master_plans.specs.Shape.{Shaped, StandsFor, strangerDamaged, besideStatus, addBeside}

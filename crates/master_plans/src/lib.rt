@@ -1,6 +1,5 @@
 // Masters on the ROOT chains: the plans of ADD-M and DEL-M. All that is to be read and tested is read and tested here; what is to be stored
 // goes into a plan, which another room commits.
-use masters::scan::lowest_free;
 use masters::walk::held_by_own;
 use plans::Head;
 use plans::Plan;
@@ -13,6 +12,7 @@ use records::fields::is_live;
 use records::fields::last_on;
 use records::fields::root_next;
 use records::fields::root_prior;
+use scan::lowest_free;
 use schema::Entry;
 use schema::Path;
 use schema::Schema;

@@ -14,8 +14,9 @@ use Rattle.schema.specs.Decode.{entryOf}
 use Rattle.schema.specs.Place.{InSet, recordOf}
 use Rattle.records.specs.Records.{isLive, rootNext, rootPrior, masterKey}
 use Rattle.plans.specs.Plan.{storeRecord}
-use Rattle.masters.specs.Find.{homeIn, heldByOwn, tailFrom, lowestFree, isFull}
-use Rattle.masters.specs.FindLaws.{lowestFree-in, lowestFree-free}
+use Rattle.scan.specs.Scan.{lowestFree, isFull}
+use Rattle.masters.specs.Find.{homeIn, heldByOwn, tailFrom}
+use Rattle.scan.specs.ScanLaws.{lowestFree-in, lowestFree-free}
 use Rattle.masters.specs.Root.{rootPriorSide, rootNextSide, putMaster, addAtHome, addSynonym, addForStranger, addMasterStores, addMasterFull}
 use Rattle.terms.specs.Laws.{home-in-set}
 use Rattle.chains.specs.Segments.{lastOr}

@@ -5,7 +5,7 @@ use mathlib.Core.Logic.{_≢_}
 use mathlib.Core.Bool.{true}
 use mathlib.Core.List.{List}
 use lib.ListN.{length}
-use Rattle.blocks.specs.Blocks.{isSealed}
+use Rattle.blocks.specs.Blocks.{checkBy, isSealed}
 use Rattle.schema.specs.declared.Schema.{Schema}
 use Rattle.schema.specs.Decode.{entryOf, pathOf, setCount}
 use Rattle.schema.specs.Place.{InSet}
@@ -17,7 +17,7 @@ use Rattle.kept_state.specs.Frames.{SameMasters, SameHeads, SamePoints, Moved}
 
 pub record MasterStep (t : Schema) (b c : List ℕ) (n : ℕ) : Type 0 where
   pub sized : length c ≡ 512 * t .blocks
-  pub sealed : (k : ℕ) → k < t .blocks → isSealed c k ≡ true
+  pub sealed : (k : ℕ) → k < t .blocks → isSealed (checkBy (t .edition)) c k ≡ true
   pub clean : (k : ℕ) → k < setCount t → setClean c (entryOf t k) ≡ true
   pub masters : MasterSet c (entryOf t n)
   pub others : (k : ℕ) → k < t .masters → k ≢ n → SameMasters t b c k

@@ -19,6 +19,7 @@ use Rattle.records.specs.Address.{Field, root-next, root-prior, own-key, body, 
 use Rattle.records.specs.AddressLaws.{address}
 use Rattle.records.specs.KindLaws.{is-variable}
 use Rattle.records.specs.Areas.{areaOf, areaKeys, areaBody}
+use Rattle.blocks.specs.Blocks.{checkBy}
 use Rattle.plans.specs.Plan.{Store, storeRun, blocksSealed, committed}
 use Rattle.masters.specs.Find.{find, homeIn, recordFound, isAt}
 use Rattle.masters.specs.Root.{addMasterStores, delMasterStores}
@@ -99,7 +100,7 @@ module _ (t : Schema) (w : World t) (b : List ℕ) (rows : ℕ → ℕ → List 
   knows : n < t .masters → MastersKnown t b n
   knows m = record { ok = w .ok; sized = g .sized; set = m; clean = g .clean n (omega arith); sound = g .masters n m }
 
-  step : (xs : List Store) → n < t .masters → CallDeeds t b n xs → MasterStep t b (committed b xs) n
+  step : (xs : List Store) → n < t .masters → CallDeeds t b n xs → MasterStep t b (committed (checkBy (t .edition)) b xs) n
   step xs m d =
       rw (d .are) (record {
         sized = length-after (w .ok) b (g .sized) (d .deeds) ∙ g .sized;
@@ -114,7 +115,7 @@ module _ (t : Schema) (w : World t) (b : List ℕ) (rows : ℕ → ℕ → List 
         areas = λ i r a l h. other-area w (knows m) (d .within) i l (λ z. omega arith) r h a;
       })
 
-  fits : (xs : List Store) → CallDeeds t b n xs → blocksSealed b xs ≡ true
+  fits : (xs : List Store) → CallDeeds t b n xs → blocksSealed (checkBy (t .edition)) b xs ≡ true
   fits xs d = rw (d .are) (deeds-storable (w .ok) b (g .sized) (d .deeds) (d .within .valid) (g .sealed))
 
   -- the master that was found
@@ -123,10 +124,10 @@ module _ (t : Schema) (w : World t) (b : List ℕ) (rows : ℕ → ℕ → List 
   found sought m h = found-live b (entryOf t n) (some (knows m)) (g .masters n m) sought h
 
   pub add-master-step : (key area : List ℕ) → AddMasterTests t b n key area
-      → MasterStep t b (committed b (addMasterStores b (entryOf t n) (homeIn (entryOf t n) key) area)) n
+      → MasterStep t b (committed (checkBy (t .edition)) b (addMasterStores b (entryOf t n) (homeIn (entryOf t n) key) area)) n
   add-master-step sought area tests = step _ (tests .set) (add-deeds (knows (tests .set)) tests)
 
-  pub add-master-storable : (key area : List ℕ) → AddMasterTests t b n key area → blocksSealed b (addMasterStores b (entryOf t n) (homeIn (entryOf t n) key) area) ≡ true
+  pub add-master-storable : (key area : List ℕ) → AddMasterTests t b n key area → blocksSealed (checkBy (t .edition)) b (addMasterStores b (entryOf t n) (homeIn (entryOf t n) key) area) ≡ true
   add-master-storable sought area tests = fits _ (add-deeds (knows (tests .set)) tests)
 
   deleted : (key : List ℕ) → DelMasterTests t b n key
@@ -136,11 +137,11 @@ module _ (t : Schema) (w : World t) (b : List ℕ) (rows : ℕ → ℕ → List 
       rw (f .1) at (del-deeds (knows (tests .set)) (recordFound (find b (entryOf t n) sought)) (f .0) (tests .no-points))
 
   pub del-master-step : (key : List ℕ) → DelMasterTests t b n key
-      → MasterStep t b (committed b (delMasterStores b (entryOf t n) (homeIn (entryOf t n) key) (recordFound (find b (entryOf t n) key)))) n
+      → MasterStep t b (committed (checkBy (t .edition)) b (delMasterStores b (entryOf t n) (homeIn (entryOf t n) key) (recordFound (find b (entryOf t n) key)))) n
   del-master-step sought tests = step _ (tests .set) (deleted sought tests)
 
   pub del-master-storable : (key : List ℕ) → DelMasterTests t b n key
-      → blocksSealed b (delMasterStores b (entryOf t n) (homeIn (entryOf t n) key) (recordFound (find b (entryOf t n) key))) ≡ true
+      → blocksSealed (checkBy (t .edition)) b (delMasterStores b (entryOf t n) (homeIn (entryOf t n) key) (recordFound (find b (entryOf t n) key))) ≡ true
   del-master-storable sought tests = fits _ (deleted sought tests)
 
   written : (key area : List ℕ) → WriteMasterTests t b n key area
@@ -150,9 +151,9 @@ module _ (t : Schema) (w : World t) (b : List ℕ) (rows : ℕ → ℕ → List 
       (length-run area (areaKeys (entryOf t n)) (entryOf t n .room) (omega (arith, tests .area-length)))
 
   pub write-master-step : (key area : List ℕ) → WriteMasterTests t b n key area
-      → MasterStep t b (committed b (storeRun (entryOf t n) (recordFound (find b (entryOf t n) key)) (entryOf t n .body) (areaBody (entryOf t n) area) ∷ [])) n
+      → MasterStep t b (committed (checkBy (t .edition)) b (storeRun (entryOf t n) (recordFound (find b (entryOf t n) key)) (entryOf t n .body) (areaBody (entryOf t n) area) ∷ [])) n
   write-master-step sought area tests = step _ (tests .set) (written sought area tests)
 
   pub write-master-storable : (key area : List ℕ) → WriteMasterTests t b n key area
-      → blocksSealed b (storeRun (entryOf t n) (recordFound (find b (entryOf t n) key)) (entryOf t n .body) (areaBody (entryOf t n) area) ∷ []) ≡ true
+      → blocksSealed (checkBy (t .edition)) b (storeRun (entryOf t n) (recordFound (find b (entryOf t n) key)) (entryOf t n .body) (areaBody (entryOf t n) area) ∷ []) ≡ true
   write-master-storable sought area tests = fits _ (written sought area tests)

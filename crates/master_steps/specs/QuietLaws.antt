@@ -1,5 +1,5 @@
 -- The tests of ADD-M and DEL-M for damage find none in a sound set of masters: the neighbours of a master are 0 or live masters of its home,
--- and a master away from its home stands behind another. And a lowest free record that is one of the set is free.
+-- and a master away from its home stands behind another.
 use Prim.Native.Nat.{ℕ, _≤_}
 use mathlib.Core.Path.{_≡_, refl, ap}
 use mathlib.Core.Logic.{_≢_, inl, inr}
@@ -7,19 +7,15 @@ use mathlib.Core.Bool.{Bool, true, false, not, _&&_, _||_}
 use mathlib.Core.List.{List}
 use native.Mathlib.Omega.{arith}
 use lib.Dec.{eqb}
-use borrow.Author.Tests.{eqb-false, eq-eqb, ne-eqb, le-ltb}
+use borrow.Author.Tests.{eqb-false, eq-eqb, ne-eqb}
 use Rattle.schema.specs.declared.Entry.{Entry}
 use Rattle.schema.specs.Place.{InSet}
 use Rattle.records.specs.Records.{isLive, rootNext, rootPrior}
-use Rattle.masters.specs.Find.{ownHome, heldByOwn, lowestFree}
-use Rattle.masters.specs.FindLaws.{lowestFree-in, lowestFree-free}
+use Rattle.masters.specs.Find.{ownHome, heldByOwn}
 use Rattle.masters.specs.Root.{badRoot, addMasterDamaged, synonymMoves, delMasterDamaged}
 use Rattle.sound.specs.ListLaws.{in-set-test}
 use Rattle.sound.specs.KeyLaws.{Live, MasterSet}
 use Rattle.master_steps.specs.Neighbours.{Side, stranger, neighbours-aside, first-home}
-
-pub free-place : (b : List ℕ) (e : Entry) → lowestFree b e ≤ e .records → InSet e (lowestFree b e) × (isLive b e (lowestFree b e) ≡ false)
-free-place b e l = let t = le-ltb (e .records) (lowestFree b e) l in (lowestFree-in b e t, lowestFree-free b e t)
 
 -- ---- tests that fail
 

@@ -1,10 +1,9 @@
--- Document 01, "Where masters live": homes, the search for a key, and the lowest-numbered free record.
-use Prim.Native.Nat.{ℕ, zero, suc, _+_, _-_}
-use mathlib.Core.Bool.{Bool, true, false, cond, not, _&&_}
+-- Document 01, "Where masters live": homes, and the search for a key.
+use Prim.Native.Nat.{ℕ, zero, suc}
+use mathlib.Core.Bool.{Bool, true, false, cond, _&&_}
 use mathlib.Core.List.{List}
-use lib.Dec.{eqb, ltb}
+use lib.Dec.{eqb}
 use Rattle.octets.specs.Octets.{sameBytes}
-use Rattle.octets.specs.Below.{lowestFrom}
 use Rattle.terms.specs.Terms.{homeOf}
 use Rattle.schema.specs.declared.Entry.{Entry}
 use Rattle.schema.specs.Place.{inSet}
@@ -63,15 +62,3 @@ recordFound Damaged = 0
 unfoldable pub tailFrom : ℕ → List ℕ → Entry → ℕ → ℕ
 tailFrom zero b e r = r
 tailFrom (suc n) b e r = cond (eqb (rootNext b e r) 0) r (tailFrom n b e (rootNext b e r))
-
--- "the lowest-numbered free record" of a set of either kind; R + 1 where there is none
-unfoldable pub lowestFree : List ℕ → Entry → ℕ
-lowestFree b e = lowestFrom (λ r. not (isLive b e r)) (e .records) 1
-
--- "the next live one above the reference, 0 to begin", of a set of either kind; R + 1 where there is none
-abbrev pub nextLive : List ℕ → Entry → ℕ → ℕ
-nextLive b e r = lowestFrom (isLive b e) (e .records - r) (r + 1)
-
--- "no free record in the set"
-abbrev pub isFull : List ℕ → Entry → Bool
-isFull b e = ltb (e .records) (lowestFree b e)

@@ -1,14 +1,13 @@
--- What the search and the scan give: a record that is found is a live record of the set with that key, and the lowest free record is free.
+-- What the search gives: a record that is found is a live record of the set with that key.
 use Prim.Native.Nat.{ℕ, zero, suc}
 use mathlib.Core.Path.{_≡_, refl}
-use mathlib.Core.Bool.{Bool, true, false, cond, not, _&&_, and-eq-true-iff}
+use mathlib.Core.Bool.{Bool, true, false, cond, _&&_, and-eq-true-iff}
 use mathlib.Core.List.{List}
 use mathlib.Core.Logic.{_⊎_, inl, inr, ⊎-elim}
 use native.Mathlib.Omega.{arith}
 use lib.Dec.{eqb, leb}
-use borrow.Author.Tests.{leb-true, ltb-false, not-true}
+use borrow.Author.Tests.{leb-true}
 use Rattle.octets.specs.Octets.{sameBytes}
-use Rattle.octets.specs.BelowLaws.{lowestFrom-ge, lowestFrom-at}
 use Rattle.octets.specs.RunLaws.{sameBytes-eq}
 use Rattle.terms.specs.declared.RecordNo.{RecordNo}
 use Rattle.schema.specs.declared.Entry.{Entry}
@@ -16,7 +15,7 @@ use Rattle.schema.specs.Place.{InSet, inSet}
 use Rattle.records.specs.Records.{isLive, rootNext, masterKey}
 use Rattle.masters.specs.declared.Found.{Found}
 use Rattle.masters.specs.declared.Found.the-variants.{At, Missing, Damaged}
-use Rattle.masters.specs.Find.{homeIn, heldByOwn, seek, find, tailFrom, lowestFree, isFull}
+use Rattle.masters.specs.Find.{homeIn, heldByOwn, seek, find, tailFrom}
 
 pub inSet-true : (e : Entry) (r : ℕ) → inSet e r ≡ true → InSet e r
 inSet-true e r h =
@@ -75,15 +74,3 @@ pub find-at : (b : List ℕ) (e : Entry) (key : List ℕ) (q : RecordNo) → fin
 unfolding find
 find-at b e key q h =
     seek-at (e .records) b e key (homeIn e key) q (from-home (heldByOwn b e (homeIn e key)) (seek (e .records) b e key (homeIn e key)) q h)
-
--- the lowest free record: of a set that is not full it is a free record of the set, and every record below it is live
-module _ (b : List ℕ) (e : Entry) where
-  pub lowestFree-in : isFull b e ≡ false → InSet e (lowestFree b e)
-  unfolding lowestFree
-  lowestFree-in h = (lowestFrom-ge (λ r. not (isLive b e r)) (e .records) 1, ltb-false (e .records) _ h)
-
-  pub lowestFree-free : isFull b e ≡ false → isLive b e (lowestFree b e) ≡ false
-  unfolding lowestFree
-  lowestFree-free h =
-      let l = ltb-false (e .records) _ h in
-      not-true _ (lowestFrom-at (λ r. not (isLive b e r)) (e .records) 1 (omega arith))

@@ -3,5 +3,3 @@ pub mod Root
 pub mod FindLaws
 pub mod Walks
 pub mod WalkLaws
-pub mod Scans
-pub mod ScanLaws

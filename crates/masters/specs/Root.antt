@@ -10,7 +10,8 @@ use Rattle.schema.specs.Place.{inSet, recordOf}
 use Rattle.records.specs.Records.{isLive, rootNext, rootPrior}
 use Rattle.records.specs.Areas.{newMaster}
 use Rattle.plans.specs.Plan.{Store, storeWord, storeRecord, wipeRecord}
-use Rattle.masters.specs.Find.{heldByOwn, tailFrom, lowestFree, isFull}
+use Rattle.scan.specs.Scan.{lowestFree, isFull}
+use Rattle.masters.specs.Find.{heldByOwn, tailFrom}
 
 -- "a neighbour pointer the call uses is not 0 and is above R, not live"
 abbrev pub badRoot : List ℕ → Entry → ℕ → Bool

@@ -1,7 +1,6 @@
-// Where masters live: the search for a key from its home, the scans of a set, and what ADD-M and DEL-M store.
+// Where masters live: the search for a key from its home, and what ADD-M and DEL-M store.
 use terms::RecordNo;
 
-pub mod scan;
 pub mod walk;
 
 // What the search for a key finds.

@@ -1,10 +1,10 @@
 -- The laws of tests and sums over a run: a loop keeps what the run from place i on gives, so each has a turn, a failure and an end.
-use mathlib.Core.Path.{_≡_, refl, sym, ap}
+use mathlib.Core.Path.{_≡_, refl, sym, ap, _∙_}
 use mathlib.Core.Bool.{Bool, true, false, _&&_, and-assoc, and-eq-true-iff}
 use mathlib.Core.List.{List, [], _∷_, _++_}
-use Prim.Native.Nat.{ℕ, zero, suc, _+_, _%_, _≤_, _<_}
+use Prim.Native.Nat.{ℕ, zero, suc, _+_, _*_, _%_, _≤_, _<_}
 use native.Mathlib.Omega.{arith}
-use native.Mathlib.Nat.{mod-lt}
+use native.Mathlib.Nat.{mod-lt, mod-eq-of-lt}
 use lib.Dec.{eqb, lit<}
 use lib.ListN.{length, getD, drop, replicate, drop-of-length-le, length-drop}
 use borrow.Author.Tests.{eq-eqb, ne-eqb, eqb-true}
@@ -150,3 +150,19 @@ sumOnto-word acc (a ∷ []) h = absurd (omega arith)
 sumOnto-word acc (a ∷ b ∷ []) h = absurd (omega arith)
 sumOnto-word acc (a ∷ b ∷ c ∷ []) h = absurd (omega arith)
 sumOnto-word acc (a ∷ b ∷ c ∷ d ∷ xs) h = sumOnto-lt ((acc + word4 a b c d) % 4294967296) xs (mod-lt _ (lit< tt))
+
+-- zeros add nothing; k is how many words they are
+lower : (a : ℕ) → a < 4294967296 → a % 4294967296 ≡ a
+lower a h = mod-eq-of-lt h
+
+pub sumOnto-zeros : (k n acc : ℕ) → n ≡ k * 4 → acc < 4294967296 → sumOnto acc (zeros n) ≡ acc
+unfolding sumOnto
+sumOnto-zeros zero zero acc e h = refl
+sumOnto-zeros zero (suc n) acc e h = absurd (omega arith)
+sumOnto-zeros (suc k) zero acc e h = refl
+sumOnto-zeros (suc k) (suc zero) acc e h = refl
+sumOnto-zeros (suc k) (suc (suc zero)) acc e h = refl
+sumOnto-zeros (suc k) (suc (suc (suc zero))) acc e h = refl
+sumOnto-zeros (suc k) (suc (suc (suc (suc n)))) acc e h =
+    let z : (acc + word4 0 0 0 0) % 4294967296 ≡ acc = lower (acc + word4 0 0 0 0) (omega arith) ∙ omega arith in
+    rw z (sumOnto-zeros k n acc (omega arith) h)

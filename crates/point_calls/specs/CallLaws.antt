@@ -24,8 +24,8 @@ use Rattle.calls.specs.Call.{Call, oneOf}
 use Rattle.calls.specs.Scene.{Scene, sceneUnder}
 use Rattle.calls.specs.Reply.{masterIn, orEnd, given, referenceAfter, storesOf}
 use Rattle.schema.specs.Naming.{linkOf}
-use Rattle.calls.specs.Ladder.{refusal, isLink}
-use Rattle.calls.specs.Answer.{answered, restTests}
+use Rattle.calls.specs.Ladder.{restRungs, refusal, isLink}
+use Rattle.calls.specs.Answer.{answered}
 use Rattle.calls.specs.RestLaws.{rest-readv, rest-readr, rest-readd}
 use Rattle.ends.specs.AsksLaws.{found-among}
 use Rattle.ends.specs.Ends.{Ends, gave}
@@ -39,10 +39,10 @@ use Rattle.point_calls.specs.SeekLaws.{seen-ends, rest-refuses}
 
 module _ (e : Entry) (r : ℕ) (area b : List ℕ) where
   readd-gives : (y : Scene) (c : Call) → y .operation ≡ Readd → y .entry ≡ e → c .reference ≡ r → c .base ≡ b → c .area ≡ area
-      → answered y c (refusal (restTests y c)) ≡ gave b e r area
+      → answered y c (refusal y c (restRungs y)) ≡ gave b e r area
   unfolding given referenceAfter storesOf
   readd-gives y c o w hr hb ha =
-      rw (← hb, ← ha, ← w, ← hr) (gave-answers y c (refusal (restTests y c)) (c .reference) (rest-readd y c o) (rw o refl) (rw o refl) (rw o refl) (rw o refl))
+      rw (← hb, ← ha, ← w, ← hr) (gave-answers y c (refusal y c (restRungs y)) (c .reference) (rest-readd y c o) (rw o refl) (rw o refl) (rw o refl) (rw o refl))
 
 pub readd-ends : {s : Status} {q : ℕ} {new : List ℕ} (e : Entry) (p : Path) (x : Entry) (r : ℕ) (key area b : List ℕ) (m : RecordNo) → Seen b e p x r key true m
     → Ends (gave b e r area) s q new b → AnswersOnPath Readd e p x r key area b s q new b
@@ -64,7 +64,7 @@ abbrev along : Bool → Scene → Call → ℕ
 along back y c = pointerOn back (c .base) (y .entry) (y .path) (y .masters) (masterIn y) (c .reference) (isLink y c)
 
 read-rest : (back : Bool) (y : Scene) (c : Call) → y .operation ≡ readBy back
-    → refusal (restTests y c) ≡ cond (readDamaged (c .base) (y .entry) (y .path) (y .masters) (masterIn y) (c .key) (isLink y c) (along back y c)) Damg Done
+    → refusal y c (restRungs y) ≡ cond (readDamaged (c .base) (y .entry) (y .path) (y .masters) (masterIn y) (c .key) (isLink y c) (along back y c)) Damg Done
 read-rest true y c o = rest-readr y c o
 read-rest false y c o = rest-readv y c o
 
@@ -105,13 +105,13 @@ module _ (back linked : Bool) (e : Entry) (p : Path) (x : Entry) (r : ℕ) (key 
     used : along back y c ≡ n
     used = rw (at .entry, at .path, at .masters, found-at, h .base, h .reference, ← l) (sym w)
 
-    rest-is : refusal (restTests y c) ≡ cond (readDamaged b e p x (m .0) key linked n) Damg Done
+    rest-is : refusal y c (restRungs y) ≡ cond (readDamaged b e p x (m .0) key linked n) Damg Done
     rest-is = read-rest back y c is-read ∙ (rw (used, at .entry, at .path, at .masters, found-at, h .base, h .key, h .reference, ← l) refl)
 
-    gives : readDamaged b e p x (m .0) key linked n ≡ false → answered y c (refusal (restTests y c)) ≡ gave b e n area
+    gives : readDamaged b e p x (m .0) key linked n ≡ false → answered y c (refusal y c (restRungs y)) ≡ gave b e n area
     gives d =
         rw (← h .base, ← h .area, ← at .entry)
-        (gave-answers y c (refusal (restTests y c)) n (rest-is ∙ (rw d refl)) (read-given back y c is-read ∙ used)
+        (gave-answers y c (refusal y c (restRungs y)) n (rest-is ∙ (rw d refl)) (read-given back y c is-read ∙ used)
         (read-after back y c is-read ∙ ap orEnd (read-given back y c is-read ∙ used)) (read-stores back y c is-read .0) (read-stores back y c is-read .1))
 
   pub read-refused : readDamaged b e p x (m .0) key linked n ≡ true → AnswersOnPath (readBy back) e p x r key area b Damg r area b

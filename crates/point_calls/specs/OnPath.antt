@@ -9,8 +9,9 @@ use lib.ListN.{length}
 use Rattle.terms.specs.declared.Status.{Status}
 use Rattle.terms.specs.declared.Status.the-variants.{Done, Fntf, Kind, Ivrp, Mrnf, Damg}
 use Rattle.terms.specs.declared.Status.the-variants as refusals
+use Rattle.terms.specs.Status.{firstOf}
 use Rattle.terms.specs.declared.Operation.{Operation}
-use Rattle.terms.specs.declared.Operation.the-variants.{Formt, Sinon, AddM, DelM, Readm, Writm, Readv, Readr, Addvc, Addvb, Addva}
+use Rattle.terms.specs.declared.Operation.the-variants.{AddM, Readv, Readr, Addvc, Addvb, Addva}
 use Rattle.terms.specs.declared.RecordNo.{RecordNo}
 use Rattle.schema.specs.declared.Path.{Path}
 use Rattle.schema.specs.declared.Entry.{Entry}
@@ -24,11 +25,12 @@ use Rattle.masters.specs.Find.{find, isMissing, isDamaged, recordFound}
 use Rattle.points.specs.declared.Spot.{Spot}
 use Rattle.points.specs.declared.Spot.the-variants.{Last, After, Before}
 use Rattle.points.specs.Chains.{isPointOf}
+use Rattle.records.specs.InBase.{MastersOf}
 use Rattle.point_plans.specs.Within.{SpotIn}
-use Rattle.calls.specs.Call.{Call, oneOf, masterCalls, variableCalls}
+use Rattle.calls.specs.Call.{Call, oneOf, masterCalls, variableCalls, wholeCalls}
 use Rattle.calls.specs.Scene.{sceneUnder}
 use Rattle.schema.specs.Naming.{pathNamed, linkOf}
-use Rattle.calls.specs.Ladder.{finders}
+use Rattle.calls.specs.Ladder.{finders, needers}
 use Rattle.calls.specs.Reply.{spotOf}
 use Rattle.forms.specs.Form.{rungsOf, formStatus}
 use Rattle.ends.specs.Ends.{Ends}
@@ -40,12 +42,12 @@ use Rattle.point_calls.specs.declared.Sighted.{Sighted}
 
 -- a call on points: the tests that it has and those that it has not
 pub record PointCall (o : Operation) : Type 0 where
-  pub on-set : oneOf o (Formt ∷ Sinon ∷ []) ≡ false
+  pub on-set : oneOf o wholeCalls ≡ false
   pub of-no-masters : oneOf o masterCalls ≡ false
   pub of-points : oneOf o variableCalls ≡ true
   pub of-a-key : rungsOf o .key ≡ true
   pub finds : oneOf o finders ≡ true
-  pub needs-it : oneOf o (DelM ∷ Readm ∷ Writm ∷ variableCalls) ≡ true
+  pub needs-it : oneOf o needers ≡ true
   pub adds-none : oneOf o (AddM ∷ []) ≡ false
 
 -- READV goes forward, READR back
@@ -86,17 +88,18 @@ pub record OnPath (t : Schema) (c : Call) (n : ℕ) (e : Entry) (j : ℕ) (p : P
   pub on : sceneUnder t c .on ≡ j
   pub path : sceneUnder t c .path ≡ p
   pub masters : sceneUnder t c .masters ≡ x
+  pub edition : sceneUnder t c .schema .edition ≡ e .edition
 
 -- a refusal of the set or of its path: its first path stands for the one that is not there, and the set itself for the masters
 abbrev pub nowhereIn : Status → Entry → Located
 nowhereIn s e = record { status = s; number = record { 0 = 0 }; entry = e; on = 0; path = pathOf e 0; masters = e }
 
--- 6 to 11 by form, on path j of the points e, which are set number i
-abbrev pub takenOn : Schema → Operation → ℕ → Entry → ℕ → ℕ → List ℕ → List ℕ → Located
-takenOn t o i e j r k a =
+-- 6, on path j of the points e, which are set number i
+abbrev pub takenOn : Schema → ℕ → Entry → ℕ → Located
+takenOn t i e j =
     cond (ltb j (e .count))
     (record {
-      status = formStatus o e j (linkOf (pathOf e j)) (mastersOn t e j .key) r k a;
+      status = Done;
       number = record { 0 = i };
       entry = e;
       on = j;
@@ -105,12 +108,24 @@ takenOn t o i e j r k a =
     })
     (nowhereIn refusals.Path e)
 
--- 4 to 11 by form, on set number i, with the path named by w: a number that no set has is refused, with the schema's first set in its place
-abbrev pub locatedAt : Schema → Operation → ℕ → List ℕ → ℕ → List ℕ → List ℕ → Located
-locatedAt t o i w r k a =
+-- 4 to 6, on set number i, with the path named by w: a number that no set has is refused, with the schema's first set in its place
+abbrev pub locatedAt : Schema → ℕ → List ℕ → Located
+locatedAt t i w =
     cond (ltb i (setCount t))
-    (cond (isMaster (entryOf t i)) (nowhereIn Kind (entryOf t i)) (takenOn t o i (entryOf t i) (pathNamed t (entryOf t i) w) r k a))
+    (cond (isMaster (entryOf t i)) (nowhereIn Kind (entryOf t i)) (takenOn t i (entryOf t i) (pathNamed t (entryOf t i) w)))
     (nowhereIn Fntf (entryOf t 0))
+
+-- and 7 to 11 by form there
+abbrev pub formedOn : Operation → Located → ℕ → List ℕ → List ℕ → Located
+formedOn o l r k a =
+    record {
+      status = firstOf (l .status) (formStatus o (l .entry) (l .on) (linkOf (l .path)) (l .masters .key) r k a);
+      number = l .number;
+      entry = l .entry;
+      on = l .on;
+      path = l .path;
+      masters = l .masters;
+    }
 
 -- what every call that asks with these parameters, and names the path by w, has come to
 pub record Locates (t : Schema) (o : Operation) (n w : List ℕ) (r : ℕ) (k a : List ℕ) (l : Located) : Type 0 where
@@ -143,12 +158,18 @@ pointerOn back b e p x m r linked = cond linked (cond back (lastOn b x m p) (fir
 
 -- ---- what the calls that store bring
 
+-- is the spot beside a record, so that the add looks at it?
+abbrev pub isBeside : Spot → Bool
+isBeside Last = false
+isBeside (After r) = true
+isBeside (Before r) = true
+
 -- an add's spot, on a path p of the points e, with the reference r
-pub record Spotted (spot : Spot) (e : Entry) (p : Path) (r : ℕ) (looks : Bool) : Type 0 where
+pub record Spotted (spot : Spot) (e : Entry) (p : Path) (r : ℕ) : Type 0 where
   pub by-reference : spot ≡ spotOf (addAt spot) r
   pub in-set : SpotIn spot e
-  pub look : looks ≡ looksAt (addAt spot) p r
-  pub looked : looks ≡ true → InSet e r
+  pub look : isBeside spot ≡ looksAt (addAt spot) p r
+  pub looked : isBeside spot ≡ true → InSet e r
 
 -- ---- how a call ends
 
@@ -156,6 +177,6 @@ pub record Spotted (spot : Spot) (e : Entry) (p : Path) (r : ℕ) (looks : Bool)
 pub record AnswersOnPath (o : Operation) (e : Entry) (p : Path) (x : Entry) (r : ℕ) (k a b : List ℕ) (s : Status) (q : ℕ) (new after : List ℕ) : Type 0 where
   pub told : (t : Schema) (c : Call) (n on : ℕ) → Asks c o (c .name) r k a b → OnPath t c n e on p x → Ends (placedOutcome t c) s q new after
 
--- and under this schema: the adds and DELVD go to the masters of the other paths
-pub record AnswersUnder (t : Schema) (o : Operation) (e : Entry) (on : ℕ) (p : Path) (x : Entry) (r : ℕ) (k a b : List ℕ) (s : Status) (q : ℕ) (new after : List ℕ) : Type 0 where
-  pub told : (c : Call) (n : ℕ) → Asks c o (c .name) r k a b → OnPath t c n e on p x → Ends (placedOutcome t c) s q new after
+-- every call on path number `on`, where `all` are the masters of every path: the adds and DELVD go to those of the other paths
+pub record AnswersAmong (o : Operation) (e : Entry) (on : ℕ) (p : Path) (x : Entry) (all : List Entry) (r : ℕ) (k a b : List ℕ) (s : Status) (q : ℕ) (new after : List ℕ) : Type 0 where
+  pub told : (t : Schema) (c : Call) (n : ℕ) → Asks c o (c .name) r k a b → OnPath t c n e on p x → MastersOf t e all → Ends (placedOutcome t c) s q new after

@@ -1,5 +1,5 @@
 -- Calls on points, down the ladder to the forms of their parameters: the set, the path, and what is known of both where all is right.
-use Prim.Native.Nat.{ℕ}
+use Prim.Native.Nat.{ℕ, _≤_, _<_}
 use mathlib.Core.Path.{_≡_, refl, sym, _∙_}
 use mathlib.Core.Bool.{Bool, true, false, cond, not, _&&_, _||_}
 use mathlib.Core.List.{List, []}
@@ -26,24 +26,24 @@ use Rattle.schema.specs.Decode.{entryOf, pathOf, setCount, mastersOn}
 use Rattle.schema.specs.Place.{InSet, inSet}
 use Rattle.schema.specs.Guarantee.{SchemaOk}
 use Rattle.records.specs.KindLaws.{behind-masters}
+use Rattle.records.specs.Fields.{Fields}
 use Rattle.records.specs.Areas.{isMaster, areaLength, areaKeyOn}
 use Rattle.masters.specs.FindLaws.{inSet-true}
-use Rattle.calls.specs.SceneLaws.{number-here, entry-here, on-here, path-here}
+use Rattle.calls.specs.SceneLaws.{number-here, edition-here, entry-here, on-here, path-here}
 use Rattle.calls.specs.Call.{Call, callOf}
 use Rattle.calls.specs.Scene.{sceneUnder}
 use Rattle.schema.specs.Naming.{setNamed, pathName, pathNamed, linkOf}
 use Rattle.schema.specs.NamingLaws.{set-named, path-named}
-use Rattle.calls.specs.Ladder.{refusal, wrongKind, blankAreaKey, otherAreaKey}
-use Rattle.calls.specs.Answer.{placeTests, formTests}
+use Rattle.calls.specs.Ladder.{wrongKind, blankAreaKey, otherAreaKey, placeRungs, formRungs, refusal}
 use Rattle.forms.specs.Form.{rungsOf, formStatus}
 use Rattle.forms.specs.FormLaws.{form-tests, other-path}
 use Rattle.ends.specs.AsksLaws.{operationLetters, letters-ask, someone-asks}
 use Rattle.ends.specs.FormFacts.{key-length, area-length}
 use Rattle.octets.specs.TestLaws.{asked, either}
 use Rattle.ends.specs.Asks.{Asks, placedStatus}
-use Rattle.records.specs.InBase.{Laid, IsPathUnder, PointsIn}
+use Rattle.records.specs.InBase.{Laid, IsPathUnder, IsPathAmong, MastersOf, PointsIn}
 use Rattle.point_calls.specs.declared.Located.{Located}
-use Rattle.point_calls.specs.OnPath.{PointCall, PathKnown, OnPath, nowhereIn, locatedAt, Locates}
+use Rattle.point_calls.specs.OnPath.{PointCall, PathKnown, OnPath, nowhereIn, locatedAt, formedOn, Locates}
 
 -- ---- the eight operations
 
@@ -122,7 +122,7 @@ module _ (t : Schema) (c : Call) (o : Operation) (k : PointCall o) (q : operatio
   at = pathNamed t set (c .path)
 
   -- 4 to 6
-  place-points : refusal (placeTests (sceneUnder t c) c)
+  place-points : refusal (sceneUnder t c) c placeRungs
       ≡ cond (not (ltb (setNamed t (c .name)) (setCount t))) Fntf (cond (isMaster set) Kind (cond (not (ltb at (set .count))) refusals.Path Done))
   unfolding sceneUnder refusal wrongKind
   place-points = rw (q, k .on-set, k .of-no-masters, k .of-points) refl
@@ -132,7 +132,7 @@ module _ (t : Schema) (c : Call) (o : Operation) (k : PointCall o) (q : operatio
   masters-here = rw (q, k .of-points) refl
 
   -- 7 to 11 by form
-  form-points : refusal (formTests (sceneUnder t c) c) ≡ formStatus o set at (linkOf (pathOf set at)) (mastersOn t set at .key) (c .reference) (c .key) (c .area)
+  form-points : refusal (sceneUnder t c) c formRungs ≡ formStatus o set at (linkOf (pathOf set at)) (mastersOn t set at .key) (c .reference) (c .key) (c .area)
   unfolding sceneUnder
   form-points = form-tests (sceneUnder t c) c ∙ (rw (q, k .of-points) refl)
 
@@ -165,15 +165,17 @@ module _ (t : Schema) (o : Operation) (n w : List ℕ) (r : ℕ) (key area : Lis
       rw (place-points t c o k (h .operation), form-points t c o k (h .operation), h .name, p, h .reference, h .key, h .area)
       (gather (not (ltb i (setCount t))) (isMaster u) (not (ltb j (u .count))) form)
 
-  pub locates-path : {l : Located} → SchemaOk t → l ≡ locatedAt t o (setNamed t n) w r key area → Locates t o n w r key area l
-  locates-path ok h = rw h (go (ltb i (setCount t)) (isMaster u) (ltb j (u .count)) refl refl refl)
+  pub locates-path : {l q : Located} → SchemaOk t → q ≡ locatedAt t (setNamed t n) w → l ≡ formedOn o q r key area → Locates t o n w r key area l
+  locates-path ok g h = rw (h, g) (go (ltb i (setCount t)) (isMaster u) (ltb j (u .count)) refl refl refl)
     where
       go : (f m g : Bool) → ltb i (setCount t) ≡ f → isMaster u ≡ m → ltb j (u .count) ≡ g
           → Locates t o n w r key area
+          (formedOn o
           (cond f
           (cond m (nowhereIn Kind u)
-          (cond g (record { status = form; number = record { 0 = i }; entry = u; on = j; path = pathOf u j; masters = mastersOn t u j }) (nowhereIn refusals.Path u)))
+          (cond g (record { status = Done; number = record { 0 = i }; entry = u; on = j; path = pathOf u j; masters = mastersOn t u j }) (nowhereIn refusals.Path u)))
           (nowhereIn Fntf (entryOf t 0)))
+          r key area)
       go false m g f q s =
           record { status = λ c h p. rw (all-tests c h p, f) refl; on-path = refused-done {u = Fntf} refl (omega arith); known = refused-done {u = Fntf} refl (omega arith) }
       go true true g f q s =
@@ -193,6 +195,7 @@ module _ (t : Schema) (o : Operation) (n w : List ℕ) (r : ℕ) (key area : Lis
               on = on-here t c ∙ (rw (h .name, p) refl);
               path = path-here t c ∙ (rw (h .name, p) refl);
               masters = masters-here t c o k (h .operation) ∙ (rw (h .name, p) refl);
+              edition = edition-here t c ok i (ltb-true _ _ f);
             };
             known = λ d. record {
               behind = behind-masters t ok i q;
@@ -208,6 +211,34 @@ module _ (t : Schema) (o : Operation) (n w : List ℕ) (r : ℕ) (key area : Lis
               link = link-form o u j (linkOf (pathOf u j)) (mastersOn t u j .key) r key area d;
             };
           }
+
+-- a path that is located has its fields
+module _ (t : Schema) (i : ℕ) (w : List ℕ) {n : ℕ} (laid : Laid t n) where
+  abbrev points : Entry
+  points = entryOf t i
+
+  abbrev number : ℕ
+  number = pathNamed t points w
+
+  abbrev Fielded : Located → Type 0
+  Fielded q = q .status ≡ Done → Fields (q .entry) × (q .on < q .entry .count) × (q .masters .key ≤ 16)
+
+  pub located-fields : {q : Located} → q ≡ locatedAt t i w → Fielded q
+  located-fields h = rw h (go (ltb i (setCount t)) (isMaster points) (ltb number (points .count)) refl refl refl)
+    where
+      go : (f m g : Bool) → ltb i (setCount t) ≡ f → isMaster points ≡ m → ltb number (points .count) ≡ g
+          → Fielded
+          (cond f
+          (cond m (nowhereIn Kind points)
+          (cond g (record { status = Done; number = record { 0 = i }; entry = points; on = number; path = pathOf points number; masters = mastersOn t points number })
+          (nowhereIn refusals.Path points)))
+          (nowhereIn Fntf (entryOf t 0)))
+      go false m g f q s = refused-done {u = Fntf} refl (omega arith)
+      go true true g f q s = refused-done {u = Kind} refl (omega arith)
+      go true false false f q s = refused-done {u = refusals.Path} refl (omega arith)
+      go true false true f q s = λ d.
+          let l = laid .ok .path i number (behind-masters t (laid .ok) i q, ltb-true _ _ f, ltb-true _ _ s) in
+          (laid .fields i (ltb-true _ _ f), ltb-true _ _ s, laid .ok .master _ (l .master) .key-most)
 
 -- ---- in the base
 
@@ -227,10 +258,15 @@ known-under t o r k a i e on p x laid h =
       masters = h .masters ∙ (rw (h .path) refl);
     }
 
+-- with the masters of every path
+pub known-among : {n : ℕ} (t : Schema) (o : Operation) (r : ℕ) (k a : List ℕ) (i : ℕ) (e : Entry) (on : ℕ) (p : Path) (x : Entry) {all : List Entry}
+    → Laid t n → PathKnown t o r k a i e on p x → MastersOf t e all → IsPathAmong e on p x all n
+known-among t o r k a i e on p x laid h of = record { schema = t; under = known-under t o r k a i e on p x laid h; kept = of }
+
 -- ---- such a call exists
 
 -- For every operation on points, every path of a schema and all other parameters there is a call that asks so: no statement on the calls of
--- such a path is about none.
+-- such a path is about none. The masters kept of every path, for the adds and DELVD, are that schema's.
 module _ {t : Schema} {e : Entry} {on : ℕ} {p : Path} {x : Entry} {n : ℕ} (o : Operation) (k : PointCall o) (u : IsPathUnder t e on p x n) (r : ℕ) (key area b : List ℕ) where
   abbrev asking : Call
   asking = callOf (operationLetters o) (wordBytes (entryOf t (u .number) .name)) r (pathName t (pathOf (entryOf t (u .number)) on)) key area [] b
@@ -251,5 +287,10 @@ module _ {t : Schema} {e : Entry} {on : ℕ} {p : Path} {x : Entry} {n : ℕ} (o
       on = on-here t asking ∙ names-path;
       path = path-here t asking ∙ (rw (names-path, names-set) (sym (u .path ∙ (rw (u .here) refl))));
       masters = masters-here t asking o k (letters-ask o) ∙ (rw (names-path, names-set) (sym (u .masters ∙ (rw (u .here) refl))));
+      edition = rw (u .here) (edition-here t asking (u .laid .ok) (u .number) (u .is .1));
     },
   )
+
+pub someone-calls-among : {e : Entry} {on : ℕ} {p : Path} {x : Entry} {all : List Entry} {n : ℕ} (o : Operation) → PointCall o → (h : IsPathAmong e on p x all n) (r : ℕ) (key area b : List ℕ)
+    → ((c : Call) × Asks c o (c .name) r key area b × OnPath (h .schema) c (h .under .number) e on p x) × MastersOf (h .schema) e all
+someone-calls-among o k h r key area b = (someone-calls-points o k (h .under) r key area b, h .kept)

@@ -24,15 +24,15 @@ use Rattle.points.specs.Chains.{isPointOf}
 use Rattle.calls.specs.SceneLaws.{operation-here}
 use Rattle.calls.specs.Call.{Call, Outcome}
 use Rattle.calls.specs.Scene.{sceneUnder}
-use Rattle.calls.specs.Ladder.{refusal, isLink}
-use Rattle.calls.specs.Answer.{answered, seekTests, restTests}
+use Rattle.calls.specs.Ladder.{seekRungs, restRungs, refusal, isLink}
+use Rattle.calls.specs.Answer.{answered}
 use Rattle.forms.specs.Form.{rungsOf}
 use Rattle.ends.specs.Asks.{Asks, placedOutcome}
 use Rattle.ends.specs.AsksLaws.{given-back, found-among, seek-refuses, seek-passes}
 use Rattle.ends.specs.Ends.{Ends}
 use Rattle.ends.specs.EndsLaws.{refused-ends}
 use Rattle.point_calls.specs.declared.Sighted.{Sighted}
-use Rattle.point_calls.specs.OnPath.{PointCall, looksAt, OnPath, seekStatus, sightedOf, Seen, AnswersOnPath, AnswersUnder}
+use Rattle.point_calls.specs.OnPath.{PointCall, looksAt, OnPath, seekStatus, sightedOf, Seen, AnswersOnPath, AnswersAmong}
 
 -- ---- what the code has read
 
@@ -51,6 +51,9 @@ seen b e p x r key looks s h k w z =
     let f = one-passes (isDamaged (find b x key)) Damg _ (omega arith) d in
     let g = one-passes (isMissing (find b x key)) Mrnf _ (omega arith) (f .1) in
     rw (h, k) (record { status = d; master = found-one (find b x key) (f .0) (g .0) })
+
+pub seen-as : {b : List ℕ} {e : Entry} {p : Path} {x : Entry} {r : ℕ} {key : List ℕ} {looks same : Bool} {m : RecordNo} → looks ≡ same → Seen b e p x r key looks m → Seen b e p x r key same m
+seen-as q h = rw q at h
 
 -- a record that was looked at is live and of that key
 pub seen-point : (b : List ℕ) (e : Entry) (p : Path) (x : Entry) (r : ℕ) (key : List ℕ) (m : RecordNo) → Seen b e p x r key true m → isPointOf b e p key r ≡ true
@@ -77,7 +80,7 @@ both false i true p = refl
 both false i false p = refl
 
 module _ (t : Schema) (c : Call) (n : ℕ) (o : Operation) (e : Entry) (on : ℕ) (p : Path) (x : Entry) (r : ℕ) (key area b : List ℕ) (k : PointCall o) (h : Asks c o (c .name) r key area b) (at : OnPath t c n e on p x) where
-  seek-points : refusal (seekTests (sceneUnder t c) c)
+  seek-points : refusal (sceneUnder t c) c seekRungs
       ≡ cond (isDamaged (sceneUnder t c .found)) Damg
       (cond (isMissing (sceneUnder t c .found)) Mrnf
       (cond (looksAt o (sceneUnder t c .path) (c .reference) && not (isPointOf (c .base) (sceneUnder t c .entry) (sceneUnder t c .path) (c .key) (c .reference))) Ivrp Done))
@@ -88,7 +91,7 @@ module _ (t : Schema) (c : Call) (n : ℕ) (o : Operation) (e : Entry) (on : ℕ
       (both (rungsOf o .link) (isLink (sceneUnder t c) c) (rungsOf o .number)
       (isPointOf (c .base) (sceneUnder t c .entry) (sceneUnder t c .path) (c .key) (c .reference))))
 
-  sought : refusal (seekTests (sceneUnder t c) c) ≡ seekStatus b e p x r key (looksAt o p r)
+  sought : refusal (sceneUnder t c) c seekRungs ≡ seekStatus b e p x r key (looksAt o p r)
   unfolding seekStatus
   sought = seek-points ∙ (rw (found-among h t (at .masters), at .entry, at .path, h .base, h .key, h .reference) refl)
 
@@ -97,11 +100,11 @@ module _ (t : Schema) (c : Call) (n : ℕ) (o : Operation) (e : Entry) (on : ℕ
 
   -- both are there: what is left decides
   pub seen-ends : (u : Outcome) {s : Status} {q : ℕ} {new after : List ℕ} → seekStatus b e p x r key (looksAt o p r) ≡ Done
-      → answered (sceneUnder t c) c (refusal (restTests (sceneUnder t c) c)) ≡ u → Ends u s q new after → Ends (placedOutcome t c) s q new after
+      → answered (sceneUnder t c) c (refusal (sceneUnder t c) c (restRungs (sceneUnder t c))) ≡ u → Ends u s q new after → Ends (placedOutcome t c) s q new after
   seen-ends u w g v = seek-passes t c u (sought ∙ w) g v
 
   -- the rest refuses
-  pub rest-refuses : (s : Status) → seekStatus b e p x r key (looksAt o p r) ≡ Done → refusal (restTests (sceneUnder t c) c) ≡ s → 0 < statusNumber s
+  pub rest-refuses : (s : Status) → seekStatus b e p x r key (looksAt o p r) ≡ Done → refusal (sceneUnder t c) c (restRungs (sceneUnder t c)) ≡ s → 0 < statusNumber s
       → Ends (placedOutcome t c) s r area b
   rest-refuses s w g z = given-back h (seen-ends _ w refl (refused-ends (sceneUnder t c) c _ s g z))
 
@@ -121,5 +124,5 @@ module _ {q : List ℕ} {n : ℕ} (o : Operation) (k : PointCall o) (e : Entry) 
   pub by-seek : AnswersOnPath o e p x r key area b (s .status) r area b
   by-seek = record { told = λ t c m on h at. refused-here t c m o e on p x r key area b k h at (s .status) its-status (positive (s .status) u z) }
 
-  pub by-seek-under : (t : Schema) (on : ℕ) → AnswersUnder t o e on p x r key area b (s .status) r area b
-  by-seek-under t on = record { told = λ c m h at. refused-here t c m o e on p x r key area b k h at (s .status) its-status (positive (s .status) u z) }
+  pub by-seek-among : (on : ℕ) (all : List Entry) → AnswersAmong o e on p x all r key area b (s .status) r area b
+  by-seek-among on all = record { told = λ t c m h at of. by-seek .told t c m on h at }

@@ -1,10 +1,9 @@
 // The named master, and the referenced record where the call looks at it.
+use super::Located;
 use super::Sighted;
 use masters::Found;
 use masters::walk;
 use point_plans::damage::is_point;
-use schema::Entry;
-use schema::Path;
 use terms::Key;
 use terms::RecordNo;
 use terms::Status;
@@ -17,13 +16,13 @@ ghost use Rattle.records.specs.InBase.{Reached};
 ghost use Rattle.point_calls.specs.OnPath.{sightedOf};
 
 // "find the named master (16, then 12)", then 11 where the call looks at the referenced record.
-pub fn seek(base: &[u8], e: Entry, p: Path, x: Entry, r: u32, key: Key, looks: bool) -> Sighted
-    requires { ⌜ Reached e p x (length (now base)) ⌝ }
-    requires { ⌜ key .len ≡ x .key ⌝ }
-    requires { ⌜ (looks ≡ true → InSet e r) ⌝ }
-    ensures { λ s. ⌜ s ≡ sightedOf (now (base .entry)) e p x r (keyOf key) looks ⌝ }
+pub fn seek(base: &[u8], l: Located, r: u32, key: Key, looks: bool) -> Sighted
+    requires { ⌜ Reached (l .entry) (l .path) (l .masters) (length (now base)) ⌝ }
+    requires { ⌜ key .len ≡ l .masters .key ⌝ }
+    requires { ⌜ (looks ≡ true → InSet (l .entry) r) ⌝ }
+    ensures { λ s. ⌜ s ≡ sightedOf (now (base .entry)) (l .entry) (l .path) (l .masters) r (keyOf key) looks ⌝ }
 {
-    let s = walk::find(base, x, key);
+    let s = walk::find(base, l.masters, key);
     let found = s.found;
     match found {
         Found::Damaged => Sighted {
@@ -41,7 +40,7 @@ pub fn seek(base: &[u8], e: Entry, p: Path, x: Entry, r: u32, key: Key, looks: b
                     master: m,
                 };
             }
-            if is_point(base, e, p, key, RecordNo(r)) {
+            if is_point(base, l.entry, l.path, key, RecordNo(r)) {
                 return Sighted {
                     status: Status::Done,
                     master: m,

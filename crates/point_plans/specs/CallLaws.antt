@@ -17,7 +17,7 @@ use Rattle.terms.specs.Status.{isDone}
 use Rattle.schema.specs.declared.Entry.{Entry}
 use Rattle.schema.specs.declared.Part.{Part}
 use Rattle.schema.specs.declared.Schema.{Schema}
-use Rattle.schema.specs.Decode.{pathOf}
+use Rattle.schema.specs.Decode.{pathOf, mastersOn}
 use Rattle.schema.specs.Place.{InSet, recordOf}
 use Rattle.records.specs.declared.Link.{Link}
 use Rattle.records.specs.Areas.{areaKeyPlace, areaKeyOn, noLink, newPaths, newVariable}
@@ -27,12 +27,12 @@ use Rattle.plans.specs.declared.Plan.{Plan}
 use Rattle.plans.specs.declared.Planned.{Planned}
 use Rattle.plans.specs.PlanOk.{PlanOk, AllFit, WordsOk}
 use Rattle.plans.specs.Stores.{wordsOf, wordStores, planStores}
-use Rattle.masters.specs.Find.{lowestFree, isFull}
-use Rattle.masters.specs.FindLaws.{lowestFree-in}
+use Rattle.scan.specs.Scan.{isFull}
 use Rattle.points.specs.declared.Spot.{Spot}
-use Rattle.points.specs.Points.{spotOn, neighboursAt, addLink, addDamaged, addStores, ownKey, ownLink, delDamaged, delStores}
+use Rattle.points.specs.PlaceLaws.{newPlace-in}
+use Rattle.points.specs.Points.{spotOn, neighboursAt, newPlace, addLink, addPlace, addDamaged, addStores, ownKey, ownLink, delDamaged, delStores}
 use Rattle.point_plans.specs.Rest.{otherMasters, addStatus, delStatus}
-use Rattle.point_plans.specs.Paths.{linkOn, linkAt, ownLinks, newLinks, both, bothOn, damaged}
+use Rattle.point_plans.specs.Paths.{linkOn, linkAt, ownLinks, newLinks, placeAt, both, bothOn, damaged}
 use Rattle.point_plans.specs.WithinLaws.{record-key}
 use Rattle.point_plans.specs.DamageLaws.{links-in}
 use Rattle.point_plans.specs.Plans.{Built}
@@ -47,27 +47,27 @@ rest-done false true h = absurd (let z : _≡_ {A = ℕ} 0 1 = cc in omega arith
 rest-done false false h = (refl, refl)
 
 module _ (b : List ℕ) (t : Schema) (e : Entry) (area : List ℕ) (spot : Spot) (on : ℕ) where
-  pub add-refused : {s : Status} → s ≡ otherMasters b t e on Mrnf (areaKeyOn e area) (e .count) → isDone s ≡ false → s ≡ addStatus b t e area spot on
+  pub add-refused : {s : Status} → s ≡ otherMasters b (mastersOn t e) on Mrnf (areaKeyOn e area) (e .count) → isDone s ≡ false → s ≡ addStatus b t e area spot on
   unfolding addStatus
   add-refused h d = rw (← h, d)
 
-  pub add-passed : otherMasters b t e on Mrnf (areaKeyOn e area) (e .count) ≡ Done
+  pub add-passed : otherMasters b (mastersOn t e) on Mrnf (areaKeyOn e area) (e .count) ≡ Done
       → addStatus b t e area spot on ≡ cond (isFull b e) Full (cond (addDamaged b t e area spot on) Damg Done)
   unfolding addStatus
   add-passed h = rw h
 
 module _ (b : List ℕ) (t : Schema) (e : Entry) (r on : ℕ) where
-  pub del-refused : {s : Status} → s ≡ otherMasters b t e on Damg (ownKey b t e r) (e .count) → isDone s ≡ false → s ≡ delStatus b t e r on
+  pub del-refused : {s : Status} → s ≡ otherMasters b (mastersOn t e) on Damg (ownKey b t e r) (e .count) → isDone s ≡ false → s ≡ delStatus b t e r on
   unfolding delStatus
   del-refused h d = rw (← h, d)
 
-  pub del-passed : otherMasters b t e on Damg (ownKey b t e r) (e .count) ≡ Done → delStatus b t e r on ≡ cond (delDamaged b t e r) Damg Done
+  pub del-passed : otherMasters b (mastersOn t e) on Damg (ownKey b t e r) (e .count) ≡ Done → delStatus b t e r on ≡ cond (delDamaged b t e r) Damg Done
   unfolding delStatus
   del-passed h = rw h
 
 -- ---- the words of a plan, for neighbours f that become g
 
-module _ (b : List ℕ) (t : Schema) (e : Entry) (key : ℕ → List ℕ) (owners : List Part) (known : Known b t e key owners) (f g : ℕ → Link) (ls vs : List Link)
+module _ (b : List ℕ) (t : Schema) (e : Entry) (key : ℕ → List ℕ) (owners : List Part) (known : Known b (mastersOn t e) e key owners) (f g : ℕ → Link) (ls vs : List Link)
     (linked : (k : ℕ) → k < e .count → getD ls k noLink ≡ f k) (valued : (k : ℕ) → k < e .count → getD vs k noLink ≡ g k) where
   words-are : (h : Head) (r w : ℕ) (p : Plan) → Built e owners ls vs h r w p → wordStores (wordsOf p) ≡ concatBelow (sidesOn b t e key f g) (e .count)
   words-are h r w p made = ap wordStores (made .words) ∙ sides-are b t e key owners known ls vs f g linked valued
@@ -92,7 +92,7 @@ new-variable-same : (e : Entry) (ls ms : List Link) (area : List ℕ) → ((k : 
 unfolding newVariable
 new-variable-same e ls ms area h = rw (new-paths-same e ls ms area (e .count) 0 (λ k l. h k (omega arith)))
 
-module _ (b : List ℕ) (t : Schema) (e : Entry) (area : List ℕ) (spot : Spot) (on : ℕ) (owners : List Part) (known : Known b t e (areaKeyOn e area) owners) where
+module _ (b : List ℕ) (t : Schema) (e : Entry) (area : List ℕ) (spot : Spot) (on : ℕ) (owners : List Part) (known : Known b (mastersOn t e) e (areaKeyOn e area) owners) where
   abbrev link : ℕ → Link
   link k = addLink b t e area spot on k
 
@@ -126,8 +126,8 @@ module _ (b : List ℕ) (t : Schema) (e : Entry) (area : List ℕ) (spot : Spot)
       → damaged b e area at owners (newLinks b e owners spot on) ≡ false → PlanOk (length b) e p
   add-ok r p made in-set at clean =
       record {
-        few = omega (arith, made .count, known .set .points .few);
-        head = rw (made .head, made .target) (in-set, known .set .points .kind);
+        few = omega (arith, made .count, known .points .few);
+        head = rw (made .head, made .target) (in-set, known .points .kind);
         words = words-fit b t e (areaKeyOn e area) owners known link (λ k. both r) (newLinks b e owners spot on) (bothOn e r) link-at
             (λ k l. getD-upto (λ i. both r) (e .count) k noLink l) Variable r 0 p made area at clean;
         records = words-ok b t e (areaKeyOn e area) owners known link (λ k. both r) (newLinks b e owners spot on) (bothOn e r) link-at
@@ -135,29 +135,33 @@ module _ (b : List ℕ) (t : Schema) (e : Entry) (area : List ℕ) (spot : Spot)
         wiped = rw (made .wiped) (omega arith);
       }
 
+  -- the place that the code takes
+  place-is : on < e .count → placeAt b e owners spot on ≡ addPlace b t e area spot on
+  place-is l = ap (λ (z : Link). newPlace b e (z .prior)) (link-is on l)
+
   -- the whole answer
-  pub add-answer : (at : List ℕ) (a : Planned) → ((k : ℕ) → k < e .count → getD at k 0 ≡ areaKeyPlace e k) → otherMasters b t e on Mrnf (areaKeyOn e area) (e .count) ≡ Done
+  pub add-answer : (at : List ℕ) (a : Planned) → ((k : ℕ) → k < e .count → getD at k 0 ≡ areaKeyPlace e k) → on < e .count → otherMasters b (mastersOn t e) on Mrnf (areaKeyOn e area) (e .count) ≡ Done
       → a .status ≡ cond (isFull b e) Full (cond (damaged b e area at owners (newLinks b e owners spot on)) Damg Done)
-      → (a .status ≡ Done → Built e owners (newLinks b e owners spot on) (bothOn e (lowestFree b e)) Variable (lowestFree b e) 0 (a .plan))
+      → (a .status ≡ Done → Built e owners (newLinks b e owners spot on) (bothOn e (placeAt b e owners spot on)) Variable (placeAt b e owners spot on) 0 (a .plan))
       → (a .status ≡ addStatus b t e area spot on)
-      × (a .status ≡ Done → (planStores b e area (a .plan) ≡ addStores b t e area spot on (lowestFree b e)) × PlanOk (length b) e (a .plan) × (a .plan .target .0 ≡ lowestFree b e) × (a .plan .head ≡ Variable))
-  add-answer at a places done is made = (
+      × (a .status ≡ Done → (planStores b e area (a .plan) ≡ addStores b t e area spot on (addPlace b t e area spot on)) × PlanOk (length b) e (a .plan) × (a .plan .target .0 ≡ addPlace b t e area spot on) × (a .plan .head ≡ Variable))
+  add-answer at a places named done is made = (
     is ∙ (rw (add-damage at places) (sym (add-passed b t e area spot on done))),
     λ z.
-        let w = made z in
+        let w = rw (place-is named) at (made z) in
         let d = rest-done (isFull b e) (damaged b e area at owners (newLinks b e owners spot on)) (sym is ∙ z) in
-        (add-stores (lowestFree b e) (a .plan) w, add-ok (lowestFree b e) (a .plan) w (lowestFree-in b e (d .0)) at (d .1), w .target, w .head),
+        (add-stores _ (a .plan) w, add-ok _ (a .plan) w (newPlace-in b e _ (d .0)) at (d .1), w .target, w .head),
   )
 
 -- ---- DELVD of the record r
 
-module _ (b : List ℕ) (t : Schema) (e : Entry) (r : ℕ) (owners : List Part) (known : Known b t e (ownKey b t e r) owners) where
+module _ (b : List ℕ) (t : Schema) (e : Entry) (r : ℕ) (owners : List Part) (known : Known b (mastersOn t e) e (ownKey b t e r) owners) where
   own-at : (k : ℕ) → k < e .count → getD (ownLinks b e r) k noLink ≡ ownLink b t e r k
   own-at k l = getD-upto (linkOn b e r) (e .count) k noLink l
 
   pub del-damage : (at : List ℕ) → ((k : ℕ) → k < e .count → getD at k 0 ≡ pathOf e k .at) → damaged b e (recordOf b e r) at owners (ownLinks b e r) ≡ delDamaged b t e r
   unfolding delDamaged
-  del-damage at places = damaged-is b t e (ownKey b t e r) owners known (recordOf b e r) at (ownLinks b e r) (ownLink b t e r) (record-key b r at (known .set .points) places) own-at
+  del-damage at places = damaged-is b t e (ownKey b t e r) owners known (recordOf b e r) at (ownLinks b e r) (ownLink b t e r) (record-key b r at (known .points) places) own-at
 
   pub del-stores : (p : Plan) → Built e owners (ownLinks b e r) (ownLinks b e r) Nothing r r p → InSet e r → (area : List ℕ) → planStores b e area p ≡ delStores b t e r
   unfolding planStores delStores
@@ -169,7 +173,7 @@ module _ (b : List ℕ) (t : Schema) (e : Entry) (r : ℕ) (owners : List Part) 
   pub del-ok : (p : Plan) → Built e owners (ownLinks b e r) (ownLinks b e r) Nothing r r p → InSet e r → (at : List ℕ) → damaged b e (recordOf b e r) at owners (ownLinks b e r) ≡ false → PlanOk (length b) e p
   del-ok p made in-set at clean =
       record {
-        few = omega (arith, made .count, known .set .points .few);
+        few = omega (arith, made .count, known .points .few);
         head = rw (made .head) tt;
         words = words-fit b t e (ownKey b t e r) owners known (ownLink b t e r) (ownLink b t e r) (ownLinks b e r) (ownLinks b e r) own-at own-at Nothing r r p made (recordOf b e r) at clean;
         records = words-ok b t e (ownKey b t e r) owners known (ownLink b t e r) (ownLink b t e r) (ownLinks b e r) (ownLinks b e r) own-at own-at Nothing r r p made;
@@ -177,7 +181,7 @@ module _ (b : List ℕ) (t : Schema) (e : Entry) (r : ℕ) (owners : List Part) 
       }
 
   pub del-answer : (at : List ℕ) (on : ℕ) (a : Planned) → ((k : ℕ) → k < e .count → getD at k 0 ≡ pathOf e k .at) → InSet e r
-      → otherMasters b t e on Damg (ownKey b t e r) (e .count) ≡ Done → a .status ≡ cond (damaged b e (recordOf b e r) at owners (ownLinks b e r)) Damg Done
+      → otherMasters b (mastersOn t e) on Damg (ownKey b t e r) (e .count) ≡ Done → a .status ≡ cond (damaged b e (recordOf b e r) at owners (ownLinks b e r)) Damg Done
       → (a .status ≡ Done → Built e owners (ownLinks b e r) (ownLinks b e r) Nothing r r (a .plan))
       → (a .status ≡ delStatus b t e r on)
       × (a .status ≡ Done → ((area : List ℕ) → planStores b e area (a .plan) ≡ delStores b t e r) × PlanOk (length b) e (a .plan) × (a .plan .head ≡ Nothing))

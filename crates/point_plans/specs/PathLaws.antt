@@ -12,7 +12,6 @@ use lib.Dec.{eqb}
 use lib.ListN.{getD, take}
 use lib.Seq.{getD-take}
 use borrow.Author.Tests.{eqb-true, eq-eqb, ne-eqb}
-use Rattle.octets.specs.Octets.{run}
 use Rattle.octets.specs.Below.{upto}
 use Rattle.octets.specs.BelowLaws.{getD-upto}
 use Rattle.octets.specs.TestLaws.{never-both}
@@ -23,7 +22,6 @@ use Rattle.terms.specs.Status.{statusNumber, isDone, firstOf}
 use Rattle.terms.specs.Laws.{status-number-one}
 use Rattle.schema.specs.declared.Path.{Path}
 use Rattle.schema.specs.declared.Entry.{Entry}
-use Rattle.schema.specs.declared.Schema.{Schema}
 use Rattle.records.specs.declared.Link.{Link}
 use Rattle.records.specs.Records.{priorOn, nextOn}
 use Rattle.masters.specs.declared.Found.{Found}
@@ -31,26 +29,13 @@ use Rattle.masters.specs.declared.Found.the-variants.{At, Missing, Damaged}
 use Rattle.masters.specs.Find.{find}
 use Rattle.points.specs.declared.Spot.{Spot}
 use Rattle.points.specs.declared.Spot.the-variants.{Last}
-use Rattle.points.specs.Points.{findOn, spotOn, neighboursAt}
-use Rattle.point_plans.specs.declared.Owner.{Owner}
+use Rattle.points.specs.Points.{spotOn, neighboursAt}
 use Rattle.point_plans.specs.Rest.{masterStatus, otherMaster, otherMasters}
-use Rattle.point_plans.specs.Paths.{ownerOf}
-use Rattle.records.specs.InBase.{MastersIn}
 
--- ---- one path's master, for a path and masters that were read
+-- ---- one path's master
 
-pub masters-same : {x y : Entry} {p q : Path} {n : ℕ} → y ≡ x → q ≡ p → MastersIn x p n → MastersIn y q n
-masters-same e f h = rw (e, f) h
-
-pub named-same : {x y : Entry} {p q : Path} {m : RecordNo} (b src : List ℕ) (at : ℕ) → y ≡ x → q ≡ p → find b x (run src at (p .len)) ≡ At m → find b y (run src at (q .len)) ≡ At m
-named-same b src at e g h = rw (e, g) h
-
-pub named-here : {m : RecordNo} {k on : ℕ} (b : List ℕ) (t : Schema) (e : Entry) (key : ℕ → List ℕ) → k ≡ on → findOn b t e on (key on) ≡ At m → findOn b t e k (key k) ≡ At m
-named-here b t e key q h = rw q h
-
-pub owner-same : {o : Owner} {x y : Entry} {p q : Path} (absent : Status) (b src : List ℕ) (at : ℕ) → y ≡ x → q ≡ p → o ≡ ownerOf absent y (find b y (run src at (q .len)))
-    → o ≡ ownerOf absent x (find b x (run src at (p .len)))
-owner-same absent b src at e g h = rw (h, e, g)
+pub named-here : {m : RecordNo} {k on : ℕ} (b : List ℕ) (x : ℕ → Entry) (key : ℕ → List ℕ) → k ≡ on → find b (x on) (key on) ≡ At m → find b (x k) (key k) ≡ At m
+named-here b x key q h = rw q h
 
 -- ---- one path's neighbours
 
@@ -80,28 +65,28 @@ both-done s more h = go (isDone s) refl h
 -- ---- the loop over the paths
 
 -- path k's master is there
-pub record HasMaster (b : List ℕ) (t : Schema) (e : Entry) (key : ℕ → List ℕ) (k : ℕ) : Type 0 where
+pub record HasMaster (b : List ℕ) (x : ℕ → Entry) (key : ℕ → List ℕ) (k : ℕ) : Type 0 where
   pub master : RecordNo
-  pub found : findOn b t e k (key k) ≡ At master
+  pub found : find b (x k) (key k) ≡ At master
 
-module _ (b : List ℕ) (t : Schema) (e : Entry) (on : ℕ) (absent : Status) (key : ℕ → List ℕ) where
+module _ (b : List ℕ) (x : ℕ → Entry) (on : ℕ) (absent : Status) (key : ℕ → List ℕ) where
   abbrev masters : ℕ → Status
-  masters n = otherMasters b t e on absent key n
+  masters n = otherMasters b x on absent key n
 
   abbrev foundOn : ℕ → Found
-  foundOn k = findOn b t e k (key k)
+  foundOn k = find b (x k) (key k)
 
-  pub others-none : otherMasters b t e on absent key 0 ≡ Done
+  pub others-none : otherMasters b x on absent key 0 ≡ Done
   unfolding otherMasters
   others-none = refl
 
-  one-more : (n : ℕ) → masters n ≡ Done → masters (suc n) ≡ otherMaster b t e on absent key n
+  one-more : (n : ℕ) → masters n ≡ Done → masters (suc n) ≡ otherMaster b x on absent key n
   unfolding otherMasters
   one-more n h = rw h
 
   -- a turn: path n has its master
-  pub others-turn : (n : ℕ) (s : Status) → otherMasters b t e on absent key n ≡ Done → s ≡ masterStatus absent (findOn b t e n (key n)) → statusNumber s ≡ 0
-      → otherMasters b t e on absent key (n + 1) ≡ Done
+  pub others-turn : (n : ℕ) (s : Status) → otherMasters b x on absent key n ≡ Done → s ≡ masterStatus absent (find b (x n) (key n)) → statusNumber s ≡ 0
+      → otherMasters b x on absent key (n + 1) ≡ Done
   others-turn n s h q z = rw (add-one n) (one-more n h ∙ go (eqb n on))
     where
       go : (d : Bool) → cond d Done (masterStatus absent (foundOn n)) ≡ Done
@@ -116,38 +101,39 @@ module _ (b : List ℕ) (t : Schema) (e : Entry) (on : ℕ) (absent : Status) (k
       ⊎-elim (λ q. rw q at h) (λ q. let m = others-stay n i s d h (omega arith) in rw (m, d)) (eq-or-lt-of-le l)
 
   -- the first refusal decides; the named path's master is there
-  pub others-refuse : (n i : ℕ) (s : Status) (m : RecordNo) → otherMasters b t e on absent key n ≡ Done → findOn b t e on (key on) ≡ At m
-      → s ≡ masterStatus absent (findOn b t e n (key n)) → (statusNumber s ≡ 0 → ⊥) → n < i → s ≡ otherMasters b t e on absent key i
+  pub others-refuse : (n i : ℕ) (s : Status) (m : RecordNo) → otherMasters b x on absent key n ≡ Done → find b (x on) (key on) ≡ At m
+      → s ≡ masterStatus absent (find b (x n) (key n)) → (statusNumber s ≡ 0 → ⊥) → n < i → s ≡ otherMasters b x on absent key i
   others-refuse n i s m h named q z l =
       let other : eqb n on ≡ false = ne-eqb n on (λ r. z (ap statusNumber (q ∙ ap (λ (k : ℕ). masterStatus absent (foundOn k)) r ∙ ap (masterStatus absent) named))) in
       sym (others-stay (suc n) i s (ne-eqb (statusNumber s) 0 z) (one-more n h ∙ (rw other (sym q))) (omega arith))
 
   -- ---- where all are found
 
-  held : (f : Found) → isDone absent ≡ false → masterStatus absent f ≡ Done → (k : ℕ) → foundOn k ≡ f → HasMaster b t e key k
+  held : (f : Found) → isDone absent ≡ false → masterStatus absent f ≡ Done → (k : ℕ) → foundOn k ≡ f → HasMaster b x key k
   held (At r) a h k q = record { master = r; found = q }
   held Missing a h k q = absurd (never-both (isDone absent) (ap isDone h) a)
   held Damaged a h k q = absurd (let z : _≡_ {A = ℕ} 0 1 = cc in omega arith)
 
-  pub others-held : (n : ℕ) (m : RecordNo) → isDone absent ≡ false → otherMasters b t e on absent key n ≡ Done → findOn b t e on (key on) ≡ At m
-      → (k : ℕ) → k < n → HasMaster b t e key k
+  pub others-held : (n : ℕ) (m : RecordNo) → isDone absent ≡ false → otherMasters b x on absent key n ≡ Done → find b (x on) (key on) ≡ At m
+      → (k : ℕ) → k < n → HasMaster b x key k
   unfolding otherMasters
   others-held zero m a h named k l = absurd (omega arith)
   others-held (suc n) m a h named k l =
-      let d = both-done (masters n) (otherMaster b t e on absent key n) h in
+      let d = both-done (masters n) (otherMaster b x on absent key n) h in
       let w : k ≤ n = omega arith in
       ⊎-elim (λ q. this (eqb n on) refl (d .1) q) (λ q. others-held n m a (d .0) named k q) (eq-or-lt-of-le w)
     where
-      this : (o : Bool) → eqb n on ≡ o → cond o Done (masterStatus absent (foundOn n)) ≡ Done → k ≡ n → HasMaster b t e key k
+      this : (o : Bool) → eqb n on ≡ o → cond o Done (masterStatus absent (foundOn n)) ≡ Done → k ≡ n → HasMaster b x key k
       this true p i q = let r : k ≡ on = q ∙ eqb-true n on p in record { master = m; found = rw r named }
       this false p i q = rw q (held (foundOn n) a i n refl)
 
--- keys that are the same have the same masters
-pub others-same : (b : List ℕ) (t : Schema) (e : Entry) (on : ℕ) (absent : Status) (key same : ℕ → List ℕ) (n : ℕ) → ((k : ℕ) → k < n → key k ≡ same k)
-    → otherMasters b t e on absent key n ≡ otherMasters b t e on absent same n
+-- masters and keys that are the same
+pub others-same : (b : List ℕ) (x y : ℕ → Entry) (on : ℕ) (absent : Status) (key same : ℕ → List ℕ) (n : ℕ) → ((k : ℕ) → k < n → x k ≡ y k)
+    → ((k : ℕ) → k < n → key k ≡ same k) → otherMasters b x on absent key n ≡ otherMasters b y on absent same n
 unfolding otherMasters
-others-same b t e on absent key same zero h = refl
-others-same b t e on absent key same (suc n) h = rw (others-same b t e on absent key same n (λ k l. h k (omega arith)), h n (omega arith))
+others-same b x y on absent key same zero g h = refl
+others-same b x y on absent key same (suc n) g h =
+    rw (others-same b x y on absent key same n (λ k l. g k (omega arith)) (λ k l. h k (omega arith)), g n (omega arith), h n (omega arith))
 
 -- what is kept of an array that was filled path by path
 pub filled-at {ℓ} : {A : Type ℓ} (f : ℕ → A) (xs : List A) (n : ℕ) (d : A) → take n xs ≡ upto f n → (k : ℕ) → k < n → getD xs k d ≡ f k

@@ -12,8 +12,7 @@ use Rattle.terms.specs.declared.Status.{Status}
 use Rattle.schema.specs.declared.Path.{Path}
 use Rattle.schema.specs.declared.Entry.{Entry}
 use Rattle.schema.specs.declared.Part.{Part}
-use Rattle.schema.specs.declared.Schema.{Schema}
-use Rattle.schema.specs.Decode.{pathOf, mastersOn}
+use Rattle.schema.specs.Decode.{pathOf}
 use Rattle.schema.specs.Place.{partOf, bytesOf}
 use Rattle.records.specs.declared.Link.{Link}
 use Rattle.records.specs.Records.{priorOn, nextOn}
@@ -22,9 +21,10 @@ use Rattle.plans.specs.declared.Word.{Word}
 use Rattle.plans.specs.Stores.{wordIn}
 use Rattle.masters.specs.declared.Found.{Found}
 use Rattle.masters.specs.declared.Found.the-variants.{At, Missing, Damaged}
+use Rattle.masters.specs.Find.{find}
 use Rattle.points.specs.declared.Spot.{Spot}
 use Rattle.points.specs.Chains.{badNeighbour}
-use Rattle.points.specs.Points.{findOn, spotOn, neighboursAt}
+use Rattle.points.specs.Points.{spotOn, neighboursAt, newPlace}
 use Rattle.point_plans.specs.declared.Owner.{Owner}
 use Rattle.point_plans.specs.Rest.{masterStatus}
 
@@ -43,8 +43,9 @@ foundPart x Damaged = noPart
 abbrev pub ownerOf : Status → Entry → Found → Owner
 ownerOf absent x f = record { status = masterStatus absent f; part = foundPart x f }
 
-abbrev pub ownerOn : List ℕ → Schema → Entry → (ℕ → List ℕ) → ℕ → Part
-ownerOn b t e key k = foundPart (mastersOn t e k) (findOn b t e k (key k))
+-- where path k's master lies; `x` are the masters of each path
+abbrev pub ownerOn : List ℕ → (ℕ → Entry) → (ℕ → List ℕ) → ℕ → Part
+ownerOn b x key k = foundPart (x k) (find b (x k) (key k))
 
 -- the bytes of path k's master
 abbrev pub masterAt : List ℕ → List Part → ℕ → List ℕ
@@ -69,7 +70,11 @@ ownLinks b e r = upto (linkOn b e r) (e .count)
 abbrev pub newLinks : List ℕ → Entry → List Part → Spot → ℕ → List Link
 newLinks b e owners spot on = upto (linkAt b e owners spot on) (e .count)
 
--- the new record's number, for both sides of every path
+-- the new record's number
+abbrev pub placeAt : List ℕ → Entry → List Part → Spot → ℕ → ℕ
+placeAt b e owners spot on = newPlace b e (linkAt b e owners spot on on .prior)
+
+-- a number, for both sides of every path
 abbrev pub both : ℕ → Link
 both r = record { prior = r; next = r }
 

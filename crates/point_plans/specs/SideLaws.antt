@@ -31,13 +31,14 @@ use Rattle.plans.specs.PlanOk.{Fits, AllFit, WordOk, WordsOk}
 use Rattle.plans.specs.FitLaws.{run-fits, word-ok}
 use Rattle.plans.specs.Stores.{wordIn, wordStore, wordStores}
 use Rattle.masters.specs.declared.Found.the-variants.{At}
+use Rattle.masters.specs.Find.{find, recordFound}
 use Rattle.masters.specs.FindLaws.{find-at}
 use Rattle.points.specs.Chains.{priorSide, nextSide}
-use Rattle.points.specs.Points.{findOn, masterOn, damagedOn}
+use Rattle.points.specs.Points.{masterOn, damagedOn}
 use Rattle.point_plans.specs.Rest.{otherMasters}
 use Rattle.point_plans.specs.Paths.{noPart, ownerOn, masterAt, keyAt, cleanAt, damaged, sideWords, wordsOn, wordsBelow}
 use Rattle.point_plans.specs.Within.{OwnersIn, LinkIn}
-use Rattle.records.specs.InBase.{VariableIn}
+use Rattle.records.specs.InBase.{mastersKept, MastersOf, PointsIn, MastersIn, PathsIn}
 use Rattle.point_plans.specs.PathLaws.{HasMaster, others-held, filled-at}
 use Rattle.point_plans.specs.DamageLaws.{last-from, uneven-from}
 
@@ -114,45 +115,68 @@ sidesOn b t e key f g k =
     ∷ nextSide e (pathOf e k) (mastersOn t e k) (masterOn b t e k (key k)) (f k .next) (g k .prior)
     ∷ []
 
--- every path's master is there, and `owners` are their records
-pub record Known (b : List ℕ) (t : Schema) (e : Entry) (key : ℕ → List ℕ) (owners : List Part) : Type 0 where
-  pub set : VariableIn t e (length b)
-  pub held : (k : ℕ) → k < e .count → HasMaster b t e key k
-  pub owned : (k : ℕ) → k < e .count → getD owners k noPart ≡ ownerOn b t e key k
+-- every path's master is there, among the path's masters `x`, and `owners` are their records
+pub record Known (b : List ℕ) (x : ℕ → Entry) (e : Entry) (key : ℕ → List ℕ) (owners : List Part) : Type 0 where
+  pub points : PointsIn e (length b)
+  pub masters : (k : ℕ) → k < e .count → MastersIn (x k) (pathOf e k) (length b)
+  pub held : (k : ℕ) → k < e .count → HasMaster b x key k
+  pub owned : (k : ℕ) → k < e .count → getD owners k noPart ≡ ownerOn b x key k
 
 -- what the search for the other masters leaves where it refuses none: `read` are the keys as they were read
-pub known-of : (b : List ℕ) (t : Schema) (e : Entry) (on : ℕ) (absent : Status) (read key : ℕ → List ℕ) (owners : List Part) (m : RecordNo) → VariableIn t e (length b)
-    → ((k : ℕ) → k < e .count → read k ≡ key k) → isDone absent ≡ false → otherMasters b t e on absent key (e .count) ≡ Done → findOn b t e on (key on) ≡ At m
-    → take (e .count) owners ≡ upto (ownerOn b t e read) (e .count) → Known b t e key owners
-known-of b t e on absent read key owners m v same a done named filled =
+pub known-of : (b : List ℕ) (e : Entry) (masters : List Entry) (on : ℕ) (absent : Status) (read key : ℕ → List ℕ) (owners : List Part) (m : RecordNo) → PathsIn e masters (length b)
+    → ((k : ℕ) → k < e .count → read k ≡ key k) → isDone absent ≡ false → otherMasters b (mastersKept masters) on absent key (e .count) ≡ Done → find b (mastersKept masters on) (key on) ≡ At m
+    → take (e .count) owners ≡ upto (ownerOn b (mastersKept masters) read) (e .count) → Known b (mastersKept masters) e key owners
+known-of b e masters on absent read key owners m v same a done named filled =
     record {
-      set = v;
-      held = others-held b t e on absent key (e .count) m a done named;
-      owned = λ k l. filled-at (ownerOn b t e read) owners (e .count) noPart filled k l ∙ (rw (same k l));
+      points = v .points;
+      masters = v .masters;
+      held = others-held b (mastersKept masters) on absent key (e .count) m a done named;
+      owned = λ k l. filled-at (ownerOn b (mastersKept masters) read) owners (e .count) noPart filled k l ∙ (rw (same k l));
     }
 
-module _ (b : List ℕ) (t : Schema) (e : Entry) (key : ℕ → List ℕ) (owners : List Part) (known : Known b t e key owners) where
-  abbrev x : ℕ → Entry
-  x k = mastersOn t e k
+-- so it is under every schema that has these masters on the paths
+pub known-by-schema : (b : List ℕ) (t : Schema) (e : Entry) (masters : List Entry) (key : ℕ → List ℕ) (owners : List Part) → MastersOf t e masters
+    → Known b (mastersKept masters) e key owners → Known b (mastersOn t e) e key owners
+known-by-schema b t e masters key owners of h =
+    record {
+      points = h .points;
+      masters = λ k l. rw (of .same k l) at (h .masters k l);
+      held = λ k l. record { master = h .held k l .master; found = rw (of .same k l) at (h .held k l .found) };
+      owned = λ k l. rw (of .same k l) at (h .owned k l);
+    }
 
+module _ (b : List ℕ) (x : ℕ → Entry) (e : Entry) (key : ℕ → List ℕ) (owners : List Part) (known : Known b x e key owners) where
   abbrev m : ℕ → ℕ
-  m k = masterOn b t e k (key k)
+  m k = recordFound (find b (x k) (key k))
 
   owner-is : (k : ℕ) → k < e .count → getD owners k noPart ≡ partOf (x k) (m k)
   owner-is k l = known .owned k l ∙ (rw (known .held k l .found))
 
   link-in : (k : ℕ) → k < e .count → pathOf e k .link + 8 ≤ x k .size
-  link-in k l = known .set .masters k l .link
+  link-in k l = known .masters k l .link
 
   master-in : (k : ℕ) → k < e .count → InSet (x k) (m k)
   master-in k l = rw (known .held k l .found) (find-at b (x k) (key k) _ (known .held k l .found) .in-set)
 
-  -- the masters lie in the base
+  -- the masters' records lie in the base
   pub owners-in : OwnersIn e owners (length b)
-  owners-in = record { owner = λ k l. rw (owner-is k l) (record { inside = place-inside (m k) (known .set .masters k l .lies) (master-in k l); link = link-in k l }) }
+  owners-in = record { owner = λ k l. rw (owner-is k l) (record { inside = place-inside (m k) (known .masters k l .lies) (master-in k l); link = link-in k l }) }
+
+module _ (b : List ℕ) (t : Schema) (e : Entry) (key : ℕ → List ℕ) (owners : List Part) (known : Known b (mastersOn t e) e key owners) where
+  abbrev x : ℕ → Entry
+  x k = mastersOn t e k
+
+  abbrev master : ℕ → ℕ
+  master k = masterOn b t e k (key k)
+
+  owner-there : (k : ℕ) → k < e .count → getD owners k noPart ≡ partOf (x k) (master k)
+  owner-there k l = owner-is b (mastersOn t e) e key owners known k l
+
+  link-there : (k : ℕ) → k < e .count → pathOf e k .link + 8 ≤ x k .size
+  link-there k l = known .masters k l .link
 
   pub last-is : (k : ℕ) → k < e .count → wordAt (masterAt b owners k) (pathOf e k .link + 4) ≡ lastOn b (mastersOn t e k) (masterOn b t e k (key k)) (pathOf e k)
-  last-is k l = rw (owner-is k l) (last-from (x k) (pathOf e k) (m k) (link-in k l) b)
+  last-is k l = rw (owner-there k l) (last-from (x k) (pathOf e k) (master k) (link-there k l) b)
 
   -- the final 16
   pub damaged-is : (src at : List ℕ) (links : List Link) (f : ℕ → Link) → ((k : ℕ) → k < e .count → keyAt src e at k ≡ key k)
@@ -161,7 +185,7 @@ module _ (b : List ℕ) (t : Schema) (e : Entry) (key : ℕ → List ℕ) (owner
   damaged-is src at links f p q =
       ap not
       (allBelow-same (cleanAt b e src at owners links) (λ k. not (damagedOn b t e k (key k) (f k))) (e .count)
-      (λ k l. rw (p k l, q k l, owner-is k l, uneven-from (x k) (pathOf e k) (m k) (link-in k l) b)))
+      (λ k l. rw (p k l, q k l, owner-there k l, uneven-from (x k) (pathOf e k) (master k) (link-there k l) b)))
 
   -- the stores
   pub sides-are : (links values : List Link) (f g : ℕ → Link) → ((k : ℕ) → k < e .count → getD links k noLink ≡ f k) → ((k : ℕ) → k < e .count → getD values k noLink ≡ g k)
@@ -169,15 +193,15 @@ module _ (b : List ℕ) (t : Schema) (e : Entry) (key : ℕ → List ℕ) (owner
   sides-are links values f g p q =
       wordStores-below (wordsOn e owners links values) (e .count)
       ∙ concatBelow-same (λ k. wordStores (wordsOn e owners links values k)) (sidesOn b t e key f g) (e .count)
-      (λ k l. rw (p k l, q k l) (two-sides e (pathOf e k) (x k) (m k) (f k) (g k) (owner-is k l)))
+      (λ k l. rw (p k l, q k l) (two-sides e (pathOf e k) (x k) (master k) (f k) (g k) (owner-there k l)))
 
   -- their words lie in their records
   pub sides-ok : (links values : List Link) → WordsOk (wordsBelow e owners links values (e .count))
   sides-ok links values =
       words-ok-below (wordsOn e owners links values) (e .count)
       (λ k l.
-      two-ok e (pathOf e k) (x k) (m k) (getD links k noLink) (getD values k noLink) (owner-is k l) (known .set .points .lies) (known .set .masters k l .lies)
-      (known .set .points .path k l .inside) (link-in k l))
+      two-ok e (pathOf e k) (x k) (master k) (getD links k noLink) (getD values k noLink) (owner-there k l) (known .points .lies) (known .masters k l .lies)
+      (known .points .path k l .inside) (link-there k l))
 
   -- they fit
   pub sides-fit : (f g : ℕ → Link) → ((k : ℕ) → k < e .count → LinkIn e (f k)) → AllFit (length b) (concatBelow (sidesOn b t e key f g) (e .count))
@@ -185,13 +209,13 @@ module _ (b : List ℕ) (t : Schema) (e : Entry) (key : ℕ → List ℕ) (owner
       fits-below (length b) (sidesOn b t e key f g) (e .count)
       (λ k l.
       let p = pathOf e k in
-      let s = known .set .masters k l in
-      let o = known .set .points .path k l .inside in
-      let v = known .set .points .lies in (
-        fits-cond (length b) (eqb (f k .prior) 0) _ _ (λ z. run-fits (m k) (p .link) (wordBytes (g k .next)) (s .lies) (master-in k l) (omega (arith, s .link)))
+      let s = known .masters k l in
+      let o = known .points .path k l .inside in
+      let v = known .points .lies in (
+        fits-cond (length b) (eqb (f k .prior) 0) _ _ (λ z. run-fits (master k) (p .link) (wordBytes (g k .next)) (s .lies) (master-in b (mastersOn t e) e key owners known k l) (omega (arith, s .link)))
             (λ z. run-fits (f k .prior) (p .at + p .len + 4) (wordBytes (g k .next)) v (inside k l .prior (eqb-false _ _ z)) (omega arith)),
         (
-          fits-cond (length b) (eqb (f k .next) 0) _ _ (λ z. run-fits (m k) (p .link + 4) (wordBytes (g k .prior)) (s .lies) (master-in k l) (omega (arith, s .link)))
+          fits-cond (length b) (eqb (f k .next) 0) _ _ (λ z. run-fits (master k) (p .link + 4) (wordBytes (g k .prior)) (s .lies) (master-in b (mastersOn t e) e key owners known k l) (omega (arith, s .link)))
               (λ z. run-fits (f k .next) (p .at + p .len) (wordBytes (g k .prior)) v (inside k l .next (eqb-false _ _ z)) (omega arith)),
           tt,
         ),

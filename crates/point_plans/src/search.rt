@@ -1,5 +1,6 @@
 // The masters of a point's keys, path by path. A key is a run of a buffer: the area in an add, the record's part in DELVD. Each master is
 // looked for once, and what is kept of it is where its record lies.
+use super::NamedPath;
 use super::Owner;
 use super::Owners;
 use masters::Found;
@@ -7,17 +8,14 @@ use masters::walk::find;
 use schema::Entry;
 use schema::Part;
 use schema::Path;
-use schema::Schema;
-use schema::layout::entry_of;
 use schema::layout::part_of;
 use schema::layout::path_of;
 use terms::Key;
-use terms::RecordNo;
 use terms::Status;
 ghost use mathlib.Core.Path.{_≡_};
-ghost use Prim.Native.Nat.{_+_, _≤_};
+ghost use Prim.Native.Nat.{_≤_};
 ghost use lib.ListN.{length, take, drop, replicate};
-ghost use Rattle.octets.specs.Octets.{run, zeros};
+ghost use Rattle.octets.specs.Octets.{zeros};
 ghost use Rattle.octets.specs.Below.{upto};
 ghost use Rattle.terms.specs.declared.Status.the-variants.{Done};
 ghost use Rattle.terms.specs.Terms.{keyOf};
@@ -25,11 +23,10 @@ ghost use Rattle.schema.specs.Decode.{pathOf};
 ghost use Rattle.records.specs.Areas.{areaKeyPlace};
 ghost use Rattle.masters.specs.declared.Found.the-variants.{At};
 ghost use Rattle.masters.specs.Find.{find};
-ghost use Rattle.points.specs.Points.{findOn};
 ghost use Rattle.point_plans.specs.Rest.{otherMasters};
 ghost use Rattle.point_plans.specs.Paths.{noPart, ownerOf, ownerOn, keyAt};
 ghost use Rattle.point_plans.specs.Within.{KeysIn};
-ghost use Rattle.records.specs.InBase.{MastersIn, VariableIn};
+ghost use Rattle.records.specs.InBase.{mastersKept, MastersIn, PathsIn};
 
 // Where the paths' keys stand in an area of the set.
 pub fn area_places(e: Entry) -> [usize; 4]
@@ -101,50 +98,46 @@ fn owner_among(base: &[u8], x: Entry, p: Path, key: Key, absent: Status) -> Owne
     }
 }
 
-// The master of path k, whose masters are x; the named path's, `on`, is m already.
+// The master of path k, whose masters are x; the named path's is known already.
 fn owner_on(
     base: &[u8],
     x: Entry,
     p: Path,
-    src: &[u8],
-    at: usize,
+    key: Key,
     k: usize,
-    on: usize,
-    m: RecordNo,
+    named: NamedPath,
     absent: Status,
 ) -> Owner
     requires { ⌜ MastersIn x p (length (now base)) ⌝ }
-    requires { ⌜ (p .len ≤ 16) × (at + p .len ≤ length (now src)) ⌝ }
-    requires { ⌜ (k ≡ on → find (now base) x (run (now src) at (p .len)) ≡ At m) ⌝ }
-    ensures { λ o. ⌜ o ≡ ownerOf absent x (find (now (base .entry)) x (run (now (src .entry)) at (p .len))) ⌝ }
+    requires { ⌜ key .len ≡ p .len ⌝ }
+    requires { ⌜ (k ≡ named .on → find (now base) x (keyOf key) ≡ At (named .master)) ⌝ }
+    ensures { λ o. ⌜ o ≡ ownerOf absent x (find (now (base .entry)) x (keyOf key)) ⌝ }
 {
-    if k == on {
-        let part = part_of(x, m);
+    if k == named.on {
+        let part = part_of(x, named.master);
         return Owner {
             status: Status::Done,
             part,
         };
     }
-    let key = Key::part(src, at, p.len as usize);
     owner_among(base, x, p, key, absent)
 }
 
-// "the other paths' masters in path order": the first refusal, or where every path's master lies.
+// "the other paths' masters in path order": the first refusal, or where every path's master lies. `masters` are those of each path.
 pub fn all_owners(
     base: &[u8],
-    t: Schema,
     e: Entry,
+    masters: [Entry; 4],
     src: &[u8],
     at: [usize; 4],
-    on: usize,
-    m: RecordNo,
+    named: NamedPath,
     absent: Status,
 ) -> Owners
-    requires { ⌜ VariableIn t e (length (now base)) ⌝ }
+    requires { ⌜ PathsIn e masters (length (now base)) ⌝ }
     requires { ⌜ KeysIn e at (length (now src)) ⌝ }
-    requires { ⌜ findOn (now base) t e on (keyAt (now src) e at on) ≡ At m ⌝ }
-    ensures { λ o. ⌜ o .status ≡ otherMasters (now (base .entry)) t e on absent (keyAt (now (src .entry)) e at) (e .count) ⌝ }
-    ensures { λ o. ⌜ (o .status ≡ Done → take (e .count) (o .parts) ≡ upto (ownerOn (now (base .entry)) t e (keyAt (now (src .entry)) e at)) (e .count)) ⌝ }
+    requires { ⌜ find (now base) (mastersKept masters (named .on)) (keyAt (now src) e at (named .on)) ≡ At (named .master) ⌝ }
+    ensures { λ o. ⌜ o .status ≡ otherMasters (now (base .entry)) (mastersKept masters) (named .on) absent (keyAt (now (src .entry)) e at) (e .count) ⌝ }
+    ensures { λ o. ⌜ (o .status ≡ Done → take (e .count) (o .parts) ≡ upto (ownerOn (now (base .entry)) (mastersKept masters) (keyAt (now (src .entry)) e at)) (e .count)) ⌝ }
     ensures { λ o. ⌜ ((o .status ≡ Done → ⊥) → o .parts ≡ replicate 4 noPart) ⌝ }
     ensures { λ o. ⌜ drop (e .count) (o .parts) ≡ drop (e .count) (replicate 4 noPart) ⌝ }
 {
@@ -155,8 +148,9 @@ pub fn all_owners(
     while k < paths {
         let from = at[k];
         let p = path_of(e, k);
-        let x = entry_of(t, p.master);
-        let o = owner_on(base, x, p, src, from, k, on, m, absent);
+        let key = Key::part(src, from, p.len as usize);
+        let x = masters[k];
+        let o = owner_on(base, x, p, key, k, named, absent);
         let status = o.status;
         if status.number() != 0 {
             return Owners {

@@ -25,15 +25,15 @@ use Rattle.records.specs.KindLaws.{is-variable}
 use Rattle.records.specs.Address.{body, key, prior, next}
 use Rattle.records.specs.Fields.{Fields}
 use Rattle.records.specs.NewLaws.{length-newVariable, new-variable-state, new-variable-key, new-variable-prior, new-variable-next, new-variable-body}
+use Rattle.blocks.specs.Blocks.{checkBy}
 use Rattle.plans.specs.Plan.{Store, storeRecord, blocksSealed, committed}
-use Rattle.masters.specs.Find.{lowestFree}
 use Rattle.points.specs.declared.Spot.{Spot}
-use Rattle.points.specs.Points.{spotOn, addLink, addStores}
+use Rattle.points.specs.PlaceLaws.{newPlace-in, newPlace-free}
+use Rattle.points.specs.Points.{spotOn, addLink, addPlace, addStores}
 use Rattle.chains.specs.Segments.{headed-at}
 use Rattle.kept_state.specs.Deeds.{storesFor, after}
 use Rattle.kept_state.specs.Rows.{World, Represents, inserted}
 use Rattle.kept_state.specs.Tests.{AddTests}
-use Rattle.master_steps.specs.QuietLaws.{free-place}
 use Rattle.point_steps.specs.RowFacts.{pathNumbered}
 use Rattle.point_steps.specs.Nodes.{node}
 use Rattle.kept_state.specs.AreaMade.{area-made}
@@ -54,14 +54,14 @@ new-zeroed e links area = refl
 
 module _ (t : Schema) (w : World t) (b : List ℕ) (rows : ℕ → ℕ → List ℕ → List ℕ) (g : Represents t b rows) (i named : ℕ) (area : List ℕ) (spot : Spot)
     (ok : AddTests t b i named area spot) where
-  pub add-new : InSet (entryOf t i) (lowestFree b (entryOf t i)) × (isLive b (entryOf t i) (lowestFree b (entryOf t i)) ≡ false)
-  add-new = free-place b (entryOf t i) (ok .room)
+  pub add-new : InSet (entryOf t i) (addPlace b t (entryOf t i) area spot named) × (isLive b (entryOf t i) (addPlace b t (entryOf t i) area spot named) ≡ false)
+  add-new = (newPlace-in b (entryOf t i) _ (ok .room), newPlace-free b (entryOf t i) _ (ok .room))
 
   -- the call, its stores and the data base after it
   abbrev call : Linkage
   call = addLinkage t b rows i named area spot
 
-  add-stores : addStores b t (entryOf t i) area spot named (lowestFree b (entryOf t i)) ≡ storesFor t (linkDeeds t call)
+  add-stores : addStores b t (entryOf t i) area spot named (addPlace b t (entryOf t i) area spot named) ≡ storesFor t (linkDeeds t call)
   unfolding addStores
   add-stores = ap (λ (xs : List Store). storeRecord (entryOf t i) (call .at) (call .bytes) ∷ xs) (sides-stores t call)
 
@@ -110,19 +110,19 @@ module _ (t : Schema) (w : World t) (b : List ℕ) (rows : ℕ → ℕ → List 
         headed-at _ _ (call .at) (add-new .0 .0) ∙ linked-word adding (prior k) path refl
         ∙ (rw linked at (new-variable-prior (entryOf t i) links area fields variable (ok .area-length) k l (rw linked (side-small adding k l true))))
 
-  pub add-storable : blocksSealed b (addStores b t (entryOf t i) area spot named (lowestFree b (entryOf t i))) ≡ true
+  pub add-storable : blocksSealed (checkBy (t .edition)) b (addStores b t (entryOf t i) area spot named (addPlace b t (entryOf t i) area spot named)) ≡ true
   add-storable = rw add-stores (linked-storable adding)
 
-  pub add-point-step : PointStep t b (committed b (addStores b t (entryOf t i) area spot named (lowestFree b (entryOf t i)))) i (lowestFree b (entryOf t i))
+  pub add-point-step : PointStep t b (committed (checkBy (t .edition)) b (addStores b t (entryOf t i) area spot named (addPlace b t (entryOf t i) area spot named))) i (addPlace b t (entryOf t i) area spot named)
   add-point-step = rw add-stores (linked-step adding)
 
-  pub add-area : areaOf (committed b (addStores b t (entryOf t i) area spot named (lowestFree b (entryOf t i)))) (entryOf t i) (lowestFree b (entryOf t i)) ≡ area
+  pub add-area : areaOf (committed (checkBy (t .edition)) b (addStores b t (entryOf t i) area spot named (addPlace b t (entryOf t i) area spot named))) (entryOf t i) (addPlace b t (entryOf t i) area spot named) ≡ area
   add-area =
       rw add-stores
       (area-made left (entryOf t i) (call .at) area fields variable (ok .area-length) key-new
       (linked-field adding body (ok .path .1) ∙ new-variable-body (entryOf t i) links area fields variable (ok .area-length)))
 
-  pub add-keeps : Represents t (committed b (addStores b t (entryOf t i) area spot named (lowestFree b (entryOf t i)))) (rowsAdded t i named area spot (lowestFree b (entryOf t i)) rows)
+  pub add-keeps : Represents t (committed (checkBy (t .edition)) b (addStores b t (entryOf t i) area spot named (addPlace b t (entryOf t i) area spot named))) (rowsAdded t i named area spot (addPlace b t (entryOf t i) area spot named) rows)
   add-keeps =
       rw add-stores
       (linked-keeps adding (rowsAdded t i named area spot (call .at) rows) (λ k j q d. rw (ne-eqb k i d) refl)

@@ -17,6 +17,7 @@ use Rattle.schema.specs.declared.Schema.{Schema}
 use Rattle.schema.specs.Decode.{entryOf}
 use Rattle.records.specs.KindLaws.{is-variable}
 use Rattle.records.specs.AreaLaws.{head-inside}
+use Rattle.blocks.specs.Blocks.{checkBy}
 use Rattle.plans.specs.Plan.{Store, wipeRecord, blocksSealed, committed}
 use Rattle.points.specs.Points.{delStores}
 use Rattle.chains.specs.Members.{all-map}
@@ -69,13 +70,13 @@ module _ (t : Schema) (w : World t) (b : List ℕ) (rows : ℕ → ℕ → List 
       (without-fresh r (rows i j q) (all-map (Mine t b i j q) (λ a. r ≢ a) (λ a m e. n (sym (m .1) ∙ (rw (← e) refl))) (rows i j q) (g .paths i j (ok .set .0, ok .set .1, l) .mine q))))
       (key? q (call .key j))
 
-  pub del-storable : blocksSealed b (delStores b t (entryOf t i) r) ≡ true
+  pub del-storable : blocksSealed (checkBy (t .edition)) b (delStores b t (entryOf t i) r) ≡ true
   del-storable = rw del-stores (linked-storable deleting)
 
-  pub del-point-step : PointStep t b (committed b (delStores b t (entryOf t i) r)) i r
+  pub del-point-step : PointStep t b (committed (checkBy (t .edition)) b (delStores b t (entryOf t i) r)) i r
   del-point-step = rw del-stores (linked-step deleting)
 
-  pub del-keeps : Represents t (committed b (delStores b t (entryOf t i) r)) (λ k j key. cond (eqb k i) (without r (rows k j key)) (rows k j key))
+  pub del-keeps : Represents t (committed (checkBy (t .edition)) b (delStores b t (entryOf t i) r)) (λ k j key. cond (eqb k i) (without r (rows k j key)) (rows k j key))
   del-keeps =
       rw del-stores
       (linked-keeps deleting (λ k j key. cond (eqb k i) (without r (rows k j key)) (rows k j key)) (λ k j key d. rw (ne-eqb k i d) refl)

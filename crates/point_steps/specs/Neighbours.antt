@@ -19,11 +19,12 @@ use Rattle.schema.specs.Guarantee.{IsPathOf}
 use Rattle.records.specs.declared.Link.{Link}
 use Rattle.records.specs.Records.{isLive, masterKey, lastOn, keyOn, priorOn, nextOn}
 use Rattle.records.specs.Areas.{areaKeyOn, newVariable}
-use Rattle.masters.specs.Find.{isAt, lowestFree}
+use Rattle.masters.specs.Find.{isAt}
 use Rattle.points.specs.declared.Spot.{Spot}
 use Rattle.points.specs.declared.Spot.the-variants.{Last, After, Before}
 use Rattle.points.specs.Chains.{badNeighbour, unevenEnds, readDamaged}
-use Rattle.points.specs.Points.{findOn, masterOn, spotOn, neighboursAt, addMaster, addLink, addDamaged, ownKey, ownMaster, ownLink, delDamaged}
+use Rattle.points.specs.PlaceLaws.{newPlace-free}
+use Rattle.points.specs.Points.{findOn, masterOn, spotOn, neighboursAt, addMaster, addLink, addPlace, addDamaged, ownKey, ownMaster, ownLink, delDamaged}
 use Rattle.chains.specs.Members.{In, Fresh, all-in, all-map, all-append, all-left, all-right, split-in, nodup-without}
 use Rattle.chains.specs.Segments.{NoZero, lastOr, headOr, last-snoc, all-last, at-ends, at-node, headed-at}
 use Rattle.sound.specs.ListLaws.{in-set-test}
@@ -31,7 +32,6 @@ use Rattle.sound.specs.KeyLaws.{Live, MasterSet}
 use Rattle.kept_state.specs.Rows.{World, Represents, nextNode, priorNode, Mine, PathRows, putAfter, putBefore, inserted, without}
 use Rattle.kept_state.specs.Tests.{SpotOk, AddTests, DelTests}
 use Rattle.master_steps.specs.FindLaws.{find-live, found-live}
-use Rattle.master_steps.specs.QuietLaws.{free-place}
 use Rattle.point_steps.specs.RowFacts.{pathNumbered, mastersAt, row-nozero, row-chain, row-nodup}
 use Rattle.point_steps.specs.RowChange.{Linkage, sideOf, RowPlace, side-beside}
 
@@ -142,13 +142,13 @@ abbrev pub addLinkage : Schema → List ℕ → (ℕ → ℕ → List ℕ → Li
 addLinkage t b rows i named area spot =
     record {
       set = i;
-      at = lowestFree b (entryOf t i);
+      at = addPlace b t (entryOf t i) area spot named;
       bytes = newVariable (entryOf t i) (upto (addLink b t (entryOf t i) area spot named) (entryOf t i .count)) area;
       adds = true;
       master = addMaster b t (entryOf t i) area spot named;
       key = areaKeyOn (entryOf t i) area;
       link = addLink b t (entryOf t i) area spot named;
-      row = λ k. inserted (spotOn spot named k) (lowestFree b (entryOf t i)) (rows i k (areaKeyOn (entryOf t i) area k));
+      row = λ k. inserted (spotOn spot named k) (addPlace b t (entryOf t i) area spot named) (rows i k (areaKeyOn (entryOf t i) area k));
     }
 
 abbrev pub delLinkage : Schema → List ℕ → (ℕ → ℕ → List ℕ → List ℕ) → ℕ → ℕ → Linkage
@@ -177,10 +177,10 @@ module _ (t : Schema) (w : World t) (b : List ℕ) (rows : ℕ → ℕ → List 
       → RowPlace t b rows (addLinkage t b rows i named area spot) k
   add-place named area spot a k l =
       let h : IsPathOf t i k = (a .path .0, a .path .1, l) in
-      let r = lowestFree b (entryOf t i) in
+      let r = addPlace b t (entryOf t i) area spot named in
       let key = areaKeyOn (entryOf t i) area k in
       let m = found-on k key h (a .found k l) in
-      let free = free-place b (entryOf t i) (a .room) .1 in
+      let free = newPlace-free b (entryOf t i) _ (a .room) in
       let c = spot-cut t b i k (rows i k) (addMaster b t (entryOf t i) area spot named k) area r (spotOn spot named k) (g .paths i k h) (m .0) (m .1) (by (eqb k named) refl) in
       record {
         master = m;

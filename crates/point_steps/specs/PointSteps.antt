@@ -11,7 +11,7 @@ use lib.ListN.{length}
 use Rattle.octets.specs.Octets.{allZero}
 use Rattle.octets.specs.BelowLaws.{same?}
 use Rattle.octets.specs.TestLaws.{never-both}
-use Rattle.blocks.specs.Blocks.{isSealed}
+use Rattle.blocks.specs.Blocks.{checkBy, isSealed}
 use Rattle.schema.specs.declared.Schema.{Schema}
 use Rattle.schema.specs.Decode.{entryOf, setCount}
 use Rattle.schema.specs.Place.{InSet, recordOf}
@@ -42,7 +42,7 @@ use Rattle.kept_state.specs.AreaMade.{area-same}
 -- what a call on record r of the variable set i leaves of everything but that record and the paths of its set
 pub record PointStep (t : Schema) (b c : List ℕ) (i r : ℕ) : Type 0 where
   pub sized : length c ≡ 512 * t .blocks
-  pub sealed : (k : ℕ) → k < t .blocks → isSealed c k ≡ true
+  pub sealed : (k : ℕ) → k < t .blocks → isSealed (checkBy (t .edition)) c k ≡ true
   pub clean : (k : ℕ) → k < setCount t → setClean c (entryOf t k) ≡ true
   pub masters : (n : ℕ) → n < t .masters → SameMasters t b c n
   pub points : (k j : ℕ) → IsPathOf t k j → k ≢ i → SamePoints t b c k j

@@ -21,6 +21,7 @@ use Rattle.records.specs.Records.{isLive, keyOn}
 use Rattle.records.specs.Address.{Field, key, Address, offsetOf, sizeOf, HasField, getRun, getWord}
 use Rattle.records.specs.AddressLaws.{address}
 use Rattle.records.specs.WholeRecords.{Elsewhere}
+use Rattle.blocks.specs.Blocks.{checkBy}
 use Rattle.plans.specs.Plan.{blocksSealed}
 use Rattle.points.specs.Chains.{priorSide, nextSide}
 use Rattle.points.specs.SideLaws.{priorSide-is, nextSide-is}
@@ -166,7 +167,7 @@ module _ {t : Schema} {b : List ℕ} {rows : ℕ → ℕ → List ℕ → List �
   linked-valid : AllValid t (linkDeeds t x)
   linked-valid = on-valid t b (x .set) (x .at) (linkDeeds t x) linked-on
 
-  pub linked-storable : blocksSealed b (storesFor t (linkDeeds t x)) ≡ true
+  pub linked-storable : blocksSealed (checkBy (t .edition)) b (storesFor t (linkDeeds t x)) ≡ true
   linked-storable = deeds-storable (h .world .ok) b (h .state .sized) (linkDeeds t x) linked-valid (h .state .sealed)
 
   -- the record is what was put: its state, its fields

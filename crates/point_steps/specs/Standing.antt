@@ -11,7 +11,7 @@ use lib.ListN.{length}
 use borrow.Author.Tests.{ltb-true, ltb-false}
 use Rattle.octets.specs.Below.{allBelow}
 use Rattle.octets.specs.BelowLaws.{allBelow-at, allBelow-all}
-use Rattle.blocks.specs.Blocks.{isSealed}
+use Rattle.blocks.specs.Blocks.{checkBy, isSealed}
 use Rattle.schema.specs.declared.Entry.{Entry}
 use Rattle.schema.specs.declared.Schema.{Schema}
 use Rattle.schema.specs.Decode.{entryOf, pathOf, setCount, mastersOn}
@@ -120,11 +120,11 @@ module _ (t : Schema) (b : List ℕ) where
         λ g. allBelow-all f (entryOf t i .count) (λ j l. pathSet-holds b (entryOf t i) (pathNumbered t i j) (mastersAt t i j) (g j l)),
       )
 
-  sound-holds : ((k : ℕ) → k < t .blocks → isSealed b k ≡ true) → ((n : ℕ) → n < setCount t → setSound t b (entryOf t n) ≡ true) → sound t b ≡ true
+  sound-holds : ((k : ℕ) → k < t .blocks → isSealed (checkBy (t .edition)) b k ≡ true) → ((n : ℕ) → n < setCount t → setSound t b (entryOf t n) ≡ true) → sound t b ≡ true
   unfolding sound checksTrue
   sound-holds f g =
-      and-eq-true-iff (allBelow (isSealed b) (t .blocks)) (allBelow (λ n. setSound t b (entryOf t n)) (setCount t)) .1
-      (allBelow-all (isSealed b) (t .blocks) f, allBelow-all (λ n. setSound t b (entryOf t n)) (setCount t) g)
+      and-eq-true-iff (allBelow (isSealed (checkBy (t .edition)) b) (t .blocks)) (allBelow (λ n. setSound t b (entryOf t n)) (setCount t)) .1
+      (allBelow-all (isSealed (checkBy (t .edition)) b) (t .blocks) f, allBelow-all (λ n. setSound t b (entryOf t n)) (setCount t) g)
 
 -- ---- the data base
 

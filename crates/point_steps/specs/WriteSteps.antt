@@ -15,6 +15,7 @@ use Rattle.records.specs.Areas.{areaKeys, areaBody, areaOf}
 use Rattle.records.specs.KindLaws.{is-variable}
 use Rattle.records.specs.Address.{body, key}
 use Rattle.records.specs.AddressLaws.{address, other-kind}
+use Rattle.blocks.specs.Blocks.{checkBy}
 use Rattle.plans.specs.Plan.{storeRun, blocksSealed, committed}
 use Rattle.kept_state.specs.Deeds.{Deed, fill, after, AllValid}
 use Rattle.kept_state.specs.DeedLaws.{run-missed, run-filled, live-missed}
@@ -38,15 +39,15 @@ module _ (t : Schema) (w : World t) (b : List ℕ) (rows : ℕ → ℕ → List 
   valid : AllValid t fills
   valid = (((ok .set .1, ok .live .0, ok .set .1), length-run area (areaKeys (entryOf t i)) (entryOf t i .room) (omega (arith, ok .area-length))), tt)
 
-  pub write-storable : blocksSealed b (storeRun (entryOf t i) r (entryOf t i .body) (areaBody (entryOf t i) area) ∷ []) ≡ true
+  pub write-storable : blocksSealed (checkBy (t .edition)) b (storeRun (entryOf t i) r (entryOf t i .body) (areaBody (entryOf t i) area) ∷ []) ≡ true
   write-storable = deeds-storable (w .ok) b (g .sized) fills valid (g .sealed)
 
-  pub write-point-step : PointStep t b (committed b (storeRun (entryOf t i) r (entryOf t i .body) (areaBody (entryOf t i) area) ∷ [])) i r
+  pub write-point-step : PointStep t b (committed (checkBy (t .edition)) b (storeRun (entryOf t i) r (entryOf t i .body) (areaBody (entryOf t i) area) ∷ [])) i r
   write-point-step =
       deeds-step t w b rows g i r (ok .set .0) fills ((valid .0, tt, (refl, refl)), tt)
       (λ f. absurd (never-both (isLive b (entryOf t i) r) (ok .live .1) (sym (live-missed (w .ok) b (g .sized) fills i r valid (ok .set .1) (ok .live .0) (tt, tt)) ∙ f)))
 
-  pub write-keeps : Represents t (committed b (storeRun (entryOf t i) r (entryOf t i .body) (areaBody (entryOf t i) area) ∷ [])) rows
+  pub write-keeps : Represents t (committed (checkBy (t .edition)) b (storeRun (entryOf t i) r (entryOf t i .body) (areaBody (entryOf t i) area) ∷ [])) rows
   write-keeps =
       point-step-keeps t w b written rows rows i r g write-point-step (λ k j key n. refl) (λ j l.
       let p : IsPathOf t i j = (ok .set .0, ok .set .1, l) in
@@ -55,7 +56,7 @@ module _ (t : Schema) (w : World t) (b : List ℕ) (rows : ℕ → ℕ → List 
       path-frame t b written i j (rows i j) p (same .0) (same .1)
       (write-point-step .masters (pathNumbered t i j .master .0) (w .ok .path i j p .master)) (g .paths i j p))
 
-  pub write-area : areaOf (committed b (storeRun (entryOf t i) r (entryOf t i .body) (areaBody (entryOf t i) area) ∷ [])) (entryOf t i) r ≡ area
+  pub write-area : areaOf (committed (checkBy (t .edition)) b (storeRun (entryOf t i) r (entryOf t i .body) (areaBody (entryOf t i) area) ∷ [])) (entryOf t i) r ≡ area
   write-area =
       area-made written (entryOf t i) r area (w .fields i (ok .set .1)) (is-variable t (w .ok) i (ok .set .0) (ok .set .1)) (ok .area-length)
       (λ k l.

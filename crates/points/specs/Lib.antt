@@ -1,3 +1,4 @@
 pub mod Chains
 pub mod Points
 pub mod SideLaws
+pub mod PlaceLaws

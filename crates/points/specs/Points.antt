@@ -13,6 +13,7 @@ use Rattle.records.specs.declared.Link.{Link}
 use Rattle.records.specs.Records.{keyOn, priorOn, nextOn, lastOn}
 use Rattle.records.specs.Areas.{areaKeyOn, newVariable}
 use Rattle.plans.specs.Plan.{Store, storeRecord, wipeRecord}
+use Rattle.scan.specs.Scan.{lowestFree}
 use Rattle.masters.specs.declared.Found.{Found}
 use Rattle.masters.specs.Find.{find, recordFound}
 use Rattle.points.specs.declared.Spot.{Spot}
@@ -45,6 +46,11 @@ neighboursAt b e p z Last = record { prior = z; next = 0 }
 neighboursAt b e p z (After r) = record { prior = r .0; next = nextOn b e (r .0) p }
 neighboursAt b e p z (Before r) = record { prior = priorOn b e (r .0) p; next = r .0 }
 
+-- "The new record is the lowest-numbered free one": its number, p being its prior neighbour on the named path, which has no say in it;
+-- R + 1 where the set is full
+unfoldable pub newPlace : List ℕ → Entry → ℕ → ℕ
+newPlace b e p = lowestFree b e
+
 module _ (b : List ℕ) (t : Schema) (e : Entry) (area : List ℕ) (spot : Spot) (named : ℕ) where
   -- on path k: the new record's key, the record of its master, and its neighbours
   abbrev pub addKey : ℕ → List ℕ
@@ -55,6 +61,10 @@ module _ (b : List ℕ) (t : Schema) (e : Entry) (area : List ℕ) (spot : Spot)
 
   abbrev pub addLink : ℕ → Link
   addLink k = neighboursAt b e (pathOf e k) (lastOn b (mastersOn t e k) (addMaster k) (pathOf e k)) (spotOn spot named k)
+
+  -- its number
+  abbrev pub addPlace : ℕ
+  addPlace = newPlace b e (addLink named .prior)
 
   -- the final 16 of an add
   unfoldable pub addDamaged : Bool

@@ -7,6 +7,7 @@ use lib.Dec.{leb}
 use lib.ListN.{length}
 use borrow.Author.Tests.{lt-ltb, le-ltb, le-leb, lt-leb, eq-eqb, ne-eqb}
 use Rattle.octets.specs.Octets.{wordAt, setWord}
+use Rattle.blocks.specs.declared.Check.{Check}
 use Rattle.blocks.specs.Blocks.{checkOf}
 use Rattle.schema.specs.declared.Entry.{Entry}
 use Rattle.schema.specs.declared.Schema.{Schema}
@@ -86,23 +87,23 @@ module _ (t : Schema) (i : ℕ) (ok : SchemaOk t) (h : i < setCount t) {e : Entr
 
 -- ---- one block
 
-module _ (block : List ℕ) (n : ℕ) where
-  pub sealed-length : (length block ≡ 512 → ⊥) → 0 ≡ sealedAlone block n
+module _ (k : Check) (block : List ℕ) (n : ℕ) where
+  pub sealed-length : (length block ≡ 512 → ⊥) → 0 ≡ sealedAlone k block n
   unfolding sealedAlone
   sealed-length h = rw (ne-eqb _ _ h) refl
 
-  pub sealed-false : length block ≡ 512 → (wordAt block 508 ≡ checkOf block n → ⊥) → 0 ≡ sealedAlone block n
+  pub sealed-false : length block ≡ 512 → (wordAt block 508 ≡ checkOf k block n → ⊥) → 0 ≡ sealedAlone k block n
   unfolding sealedAlone
   sealed-false l h = rw (eq-eqb _ _ l, ne-eqb _ _ h) refl
 
-  pub sealed-true : length block ≡ 512 → wordAt block 508 ≡ checkOf block n → 1 ≡ sealedAlone block n
+  pub sealed-true : length block ≡ 512 → wordAt block 508 ≡ checkOf k block n → 1 ≡ sealedAlone k block n
   unfolding sealedAlone
   sealed-true l h = rw (eq-eqb _ _ l, eq-eqb _ _ h) refl
 
-  pub seal-refused : (length block ≡ 512 → ⊥) → (0 ≡ sealAnswer block) × (block ≡ sealAlone block n)
+  pub seal-refused : (length block ≡ 512 → ⊥) → (0 ≡ sealAnswer block) × (block ≡ sealAlone k block n)
   unfolding sealAnswer sealAlone
   seal-refused h = (rw (ne-eqb _ _ h) refl, rw (ne-eqb _ _ h) refl)
 
-  pub seal-done : length block ≡ 512 → {v : ℕ} {out : List ℕ} → v ≡ checkOf block n → out ≡ setWord block 508 v → (1 ≡ sealAnswer block) × (out ≡ sealAlone block n)
+  pub seal-done : length block ≡ 512 → {v : ℕ} {out : List ℕ} → v ≡ checkOf k block n → out ≡ setWord block 508 v → (1 ≡ sealAnswer block) × (out ≡ sealAlone k block n)
   unfolding sealAnswer sealAlone
   seal-done l ev eo = (rw (eq-eqb _ _ l) refl, rw (eq-eqb _ _ l, eo, ev) refl)

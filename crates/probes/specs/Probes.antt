@@ -5,6 +5,7 @@ use mathlib.Core.List.{List}
 use lib.Dec.{eqb, ltb}
 use lib.ListN.{length}
 use Rattle.octets.specs.Octets.{wordAt, setWord}
+use Rattle.blocks.specs.declared.Check.{Check}
 use Rattle.blocks.specs.Blocks.{checkOf}
 use Rattle.schema.specs.declared.Entry.{Entry}
 use Rattle.schema.specs.declared.Schema.{Schema}
@@ -30,12 +31,12 @@ placeUnder t i r = cond (ltb i (setCount t)) (placeInSet (entryOf t i) r) nowher
 unfoldable pub placeIn : List ℕ → ℕ → ℕ → ℕ
 placeIn s i r = cond (keepsRules s) (placeUnder (schemaOf s) i r) nowhere
 
--- one block with its number: whether its check is true, and the block with its check set
-unfoldable pub sealedAlone : List ℕ → ℕ → ℕ
-sealedAlone block n = cond (eqb (length block) 512) (cond (eqb (wordAt block 508) (checkOf block n)) 1 0) 0
+-- one block with its number, of a kind of check: whether its check is true, and the block with its check set
+unfoldable pub sealedAlone : Check → List ℕ → ℕ → ℕ
+sealedAlone k block n = cond (eqb (length block) 512) (cond (eqb (wordAt block 508) (checkOf k block n)) 1 0) 0
 
-unfoldable pub sealAlone : List ℕ → ℕ → List ℕ
-sealAlone block n = cond (eqb (length block) 512) (setWord block 508 (checkOf block n)) block
+unfoldable pub sealAlone : Check → List ℕ → ℕ → List ℕ
+sealAlone k block n = cond (eqb (length block) 512) (setWord block 508 (checkOf k block n)) block
 
 unfoldable pub sealAnswer : List ℕ → ℕ
 sealAnswer block = cond (eqb (length block) 512) 1 0

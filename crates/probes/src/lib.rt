@@ -1,5 +1,6 @@
 // C entries to the proved leaves, so that tests and examples in C and Rust can compare and show them. Each takes buffers of any length and
 // contents and refuses what is bad by its answer.
+use blocks::Check;
 use schema::Entry;
 use schema::Schema;
 use schema::layout;
@@ -8,6 +9,7 @@ use terms::EntryNo;
 use terms::RecordNo;
 ghost use mathlib.Core.Path.{_≡_};
 ghost use Prim.Native.Nat.{_<_};
+ghost use Rattle.blocks.specs.declared.Check.the-variants.{Sum};
 ghost use Rattle.schema.specs.Place.{LiesIn};
 ghost use Rattle.schema.specs.Guarantee.{SchemaOk};
 ghost use Rattle.probes.specs.Probes.{blocksIn, placeInSet, placeUnder, placeIn, sealedAlone, sealAlone, sealAnswer};
@@ -68,12 +70,12 @@ pub extern "C" fn yarugota_record_place(schema: &[u8], entry: u32, number: u32) 
 // Is this one block whose check is true for this number?
 #[no_mangle]
 pub extern "C" fn yarugota_block_sealed(block: &[u8], number: u32) -> u32
-    ensures { λ r. ⌜ r ≡ sealedAlone (now (block .entry)) number ⌝ }
+    ensures { λ r. ⌜ r ≡ sealedAlone Sum (now (block .entry)) number ⌝ }
 {
     if block.len() != 512 {
         return 0;
     }
-    if octets::word(block, 508) != blocks::check(block, BlockNo(number)) {
+    if octets::word(block, 508) != blocks::check_of(block, BlockNo(number), Check::Sum) {
         return 0;
     }
     1
@@ -82,12 +84,12 @@ pub extern "C" fn yarugota_block_sealed(block: &[u8], number: u32) -> u32
 // Sets the check of one block; another length is left alone.
 #[no_mangle]
 pub extern "C" fn yarugota_block_seal(block: &mut [u8], number: u32) -> u32
-    ensures { λ r. ⌜ (r ≡ sealAnswer (now (block .entry))) × (now (block .exit) ≡ sealAlone (now (block .entry)) number) ⌝ }
+    ensures { λ r. ⌜ (r ≡ sealAnswer (now (block .entry))) × (now (block .exit) ≡ sealAlone Sum (now (block .entry)) number) ⌝ }
 {
     if block.len() != 512 {
         return 0;
     }
-    let v = blocks::check(block, BlockNo(number));
+    let v = blocks::check_of(block, BlockNo(number), Check::Sum);
     octets::put_word(block, 508, v);
     1
 }

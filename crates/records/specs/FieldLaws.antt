@@ -10,6 +10,7 @@ use lib.ListN.{length}
 use Rattle.octets.specs.Octets.{wordBytes, setWord}
 use Rattle.octets.specs.SpliceLaws.{getD-splice-out, run-splice, run-splice-out}
 use Rattle.octets.specs.WordLaws.{wordAt-splice, wordAt-setWord, wordAt-setWord-other}
+use Rattle.blocks.specs.declared.Check.{Check}
 use Rattle.blocks.specs.Blocks.{seal}
 use Rattle.blocks.specs.Laws.{getD-seal, wordAt-seal-other, run-seal}
 use Rattle.schema.specs.declared.Schema.{Schema}
@@ -64,11 +65,11 @@ getWord-putRun-other {t} xs a b ys ok ia ib h d =
 
 -- ---- sealing
 
-pub getWord-seal : {t : Schema} (xs : List ℕ) (n : ℕ) (a : Address) → SchemaOk t → WordField t a → getWord t (seal xs n) a ≡ getWord t xs a
-getWord-seal {t} xs n a ok ia = wordAt-seal-other xs n (addressAt t a) (λ p q. address-off-checks a ok (ia .0) n (omega arith) (omega arith))
+pub getWord-seal : {t : Schema} (k : Check) (xs : List ℕ) (n : ℕ) (a : Address) → SchemaOk t → WordField t a → getWord t (seal k xs n) a ≡ getWord t xs a
+getWord-seal {t} k xs n a ok ia = wordAt-seal-other k xs n (addressAt t a) (λ p q. address-off-checks a ok (ia .0) n (omega arith) (omega arith))
 
-pub getRun-seal : {t : Schema} (xs : List ℕ) (n : ℕ) (a : Address) → SchemaOk t → IsAddress t a → getRun t (seal xs n) a ≡ getRun t xs a
-getRun-seal {t} xs n a ok ia = run-seal xs n (addressAt t a) (addressSize t a) (address-off-checks a ok ia n)
+pub getRun-seal : {t : Schema} (k : Check) (xs : List ℕ) (n : ℕ) (a : Address) → SchemaOk t → IsAddress t a → getRun t (seal k xs n) a ≡ getRun t xs a
+getRun-seal {t} k xs n a ok ia = run-seal k xs n (addressAt t a) (addressSize t a) (address-off-checks a ok ia n)
 
 -- ---- the state byte
 
@@ -78,5 +79,5 @@ module _ {t : Schema} (xs : List ℕ) (n r : ℕ) (ok : SchemaOk t) (l : n < set
   stateOf-putRun a ys ia h d =
       getD-splice-out xs (addressAt t a) ys (placeOf (entryOf t n) r) (λ p q. addresses-apart a (address n r state) ok ia (l, in-set, l) (λ e. d (ap (λ (b : Address). b .field) e)) (omega arith) (omega arith))
 
-  pub stateOf-seal : (k : ℕ) → stateOf (seal xs k) (entryOf t n) r ≡ stateOf xs (entryOf t n) r
-  stateOf-seal k = getD-seal xs k (placeOf (entryOf t n) r) (λ p q. address-off-checks (address n r state) ok (l, in-set, l) k (omega arith) (omega arith))
+  pub stateOf-seal : (k : Check) (m : ℕ) → stateOf (seal k xs m) (entryOf t n) r ≡ stateOf xs (entryOf t n) r
+  stateOf-seal k m = getD-seal k xs m (placeOf (entryOf t n) r) (λ p q. address-off-checks (address n r state) ok (l, in-set, l) m (omega arith) (omega arith))

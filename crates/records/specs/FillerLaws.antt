@@ -10,6 +10,7 @@ use native.Mathlib.Nat.{mod-lt, mul-le-mul-right, div-add-mod'}
 use lib.ListN.{length}
 use Rattle.octets.specs.Octets.{Apart, run, splice}
 use Rattle.octets.specs.SpliceLaws.{run-run, run-splice-out}
+use Rattle.blocks.specs.declared.Check.{Check}
 use Rattle.blocks.specs.Blocks.{checkAt, seal}
 use Rattle.blocks.specs.Laws.{run-seal}
 use Rattle.schema.specs.declared.Entry.{Entry}
@@ -62,9 +63,9 @@ module _ {t : Schema} (n r : ℕ) (ok : SchemaOk t) (l : n < setCount t) (in-set
     fillerOf-putRun a ys ia h =
         run-splice-out xs (addressAt t a) ys (placeOf (entryOf t n) r + 1) 3 (λ p q. address-off-fillers a ia (omega arith) (omega arith))
 
-    pub fillerOf-seal : (k : ℕ) → fillerOf (seal xs k) (entryOf t n) r ≡ fillerOf xs (entryOf t n) r
-    fillerOf-seal k =
-        run-seal xs k (placeOf (entryOf t n) r + 1) 3 (inside-off-checks n r 1 3 ok (l, in-set, record-least t ok n l) k)
+    pub fillerOf-seal : (k : Check) (m : ℕ) → fillerOf (seal k xs m) (entryOf t n) r ≡ fillerOf xs (entryOf t n) r
+    fillerOf-seal k m =
+        run-seal k xs m (placeOf (entryOf t n) r + 1) 3 (inside-off-checks n r 1 3 ok (l, in-set, record-least t ok n l) m)
 
 -- ---- leftovers: "Room after records is zero."
 
@@ -126,5 +127,5 @@ module _ {t : Schema} (i k : ℕ) (ok : SchemaOk t) (li : i < setCount t) (lk : 
       run-splice-out xs (placeOf (entryOf t n) r) ys (leftoverAt (entryOf t i) k) (leftoverSize (entryOf t i) k)
       (λ p q. inside-off-leftovers n r 0 (length ys) (w .0, w .1, omega arith) (omega arith) (omega arith))
 
-  pub leftoverOf-seal : (xs : List ℕ) (j : ℕ) → leftoverOf (seal xs j) (entryOf t i) k ≡ leftoverOf xs (entryOf t i) k
-  leftoverOf-seal xs j = run-seal xs j (leftoverAt (entryOf t i) k) (leftoverSize (entryOf t i) k) (λ p q. omega (arith, leftover-ends k in-base))
+  pub leftoverOf-seal : (c : Check) (xs : List ℕ) (j : ℕ) → leftoverOf (seal c xs j) (entryOf t i) k ≡ leftoverOf xs (entryOf t i) k
+  leftoverOf-seal c xs j = run-seal c xs j (leftoverAt (entryOf t i) k) (leftoverSize (entryOf t i) k) (λ p q. omega (arith, leftover-ends k in-base))

@@ -2,10 +2,12 @@
 -- the first from the second.
 use Prim.Native.Nat.{ℕ, _+_, _*_, _≤_, _<_}
 use mathlib.Core.Path.{_≡_}
+use mathlib.Core.List.{List}
+use lib.ListN.{getD}
 use Rattle.schema.specs.declared.Path.{Path}
 use Rattle.schema.specs.declared.Entry.{Entry}
 use Rattle.schema.specs.declared.Schema.{Schema}
-use Rattle.schema.specs.Decode.{entryOf, pathOf, setCount, mastersOn}
+use Rattle.schema.specs.Decode.{noEntry, entryOf, pathOf, setCount, mastersOn}
 use Rattle.schema.specs.Place.{LiesIn}
 use Rattle.schema.specs.Guarantee.{MasterOk, IsPathOf, SchemaOk}
 use Rattle.records.specs.Fields.{Fields}
@@ -52,6 +54,20 @@ pub record IsPath (e : Entry) (p : Path) (x : Entry) (n : ℕ) : Type 0 where
   pub schema : Schema
   pub on : ℕ
   pub under : IsPathUnder schema e on p x n
+
+-- path k's masters, of those that are kept for every path
+abbrev pub mastersKept : List Entry → ℕ → Entry
+mastersKept all k = getD all k noEntry
+
+-- they are those of the paths of the set e, as the schema t says
+pub record MastersOf (t : Schema) (e : Entry) (all : List Entry) : Type 0 where
+  pub same : (k : ℕ) → k < e .count → mastersKept all k ≡ mastersOn t e k
+
+-- p is path number `on` of a schema's variable set e, x are the path's masters, and `all` are those of every path
+pub record IsPathAmong (e : Entry) (on : ℕ) (p : Path) (x : Entry) (all : List Entry) (n : ℕ) : Type 0 where
+  pub schema : Schema
+  pub under : IsPathUnder schema e on p x n
+  pub kept : MastersOf schema e all
 
 -- ---- what is asked of them
 
@@ -103,3 +119,10 @@ pub record VariableIn (t : Schema) (e : Entry) (n : ℕ) : Type 0 where
   pub points : PointsIn e n
   pub number : (k : ℕ) → k < e .count → pathOf e k .master .0 < 4
   pub masters : (k : ℕ) → k < e .count → MastersIn (mastersOn t e k) (pathOf e k) n
+
+-- the same, where the masters of every path are kept: they are a schema's
+pub record PathsIn (e : Entry) (all : List Entry) (n : ℕ) : Type 0 where
+  pub schema : Schema
+  pub kept : MastersOf schema e all
+  pub points : PointsIn e n
+  pub masters : (k : ℕ) → k < e .count → MastersIn (mastersKept all k) (pathOf e k) n

@@ -1,6 +1,7 @@
 -- What is asked of sets and paths, from their being a schema's: the guarantee in the words of the functions.
 use Prim.Native.Nat.{ℕ, _≤_, _<_}
-use mathlib.Core.Path.{_≡_, refl}
+use mathlib.Core.Path.{_≡_, refl, sym, _∙_}
+use mathlib.Core.List.{List}
 use mathlib.Core.Bool.{Bool, true, false}
 use native.Mathlib.Omega.{arith}
 use lib.Dec.{ltb}
@@ -13,7 +14,7 @@ use Rattle.schema.specs.Guarantee.{MasterOk, SchemaOk}
 use Rattle.schema.specs.PlaceLaws.{lies-most}
 use Rattle.schema.specs.GuaranteeLaws.{lies}
 use Rattle.records.specs.KindLaws.{among-masters, behind-masters}
-use Rattle.records.specs.InBase.{Laid, IsSetOf, IsMasterSet, IsPathUnder, IsPath, SetIn, MasterIn, PointsIn, MastersIn, Reached, VariableIn}
+use Rattle.records.specs.InBase.{Laid, IsSetOf, IsMasterSet, IsPathUnder, IsPath, IsPathAmong, mastersKept, PathsIn, SetIn, MasterIn, PointsIn, MastersIn, Reached, VariableIn}
 
 -- a record of either kind has a state and three zeros
 head-size : {t : Schema} (i : ℕ) → SchemaOk t → i < setCount t → 4 ≤ entryOf t i .size
@@ -106,6 +107,16 @@ module _ {t : Schema} {e : Entry} {on : ℕ} {p : Path} {x : Entry} {n : ℕ} (u
 
 pub reached : {e : Entry} {p : Path} {x : Entry} {n : ℕ} → IsPath e p x n → Reached e p x n
 reached h = reached-under (h .under)
+
+module _ {e : Entry} {on : ℕ} {p : Path} {x : Entry} {all : List Entry} {n : ℕ} (h : IsPathAmong e on p x all n) where
+  -- the named path's masters are kept too
+  pub named-among : x ≡ mastersKept all on
+  named-among = h .under .masters ∙ sym (h .kept .same on (on-among (h .under)))
+
+  pub paths-in : PathsIn e all n
+  paths-in =
+      let v = variable-under (h .under) in
+      record { schema = h .schema; kept = h .kept; points = v .points; masters = λ k l. rw (h .kept .same k l) (v .masters k l) }
 
 -- ---- a set of a schema, by its kind
 

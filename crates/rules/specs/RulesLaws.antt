@@ -13,8 +13,8 @@ use Rattle.octets.specs.Octets.{byteAt, run, every, is, allZero, sameBytes}
 use Rattle.octets.specs.RunLaws.{every-append}
 use Rattle.octets.specs.Below.{allBelow}
 use Rattle.octets.specs.BelowLaws.{allBelow-all}
-use Rattle.blocks.specs.Blocks.{isSealed}
-use Rattle.schema.specs.Fields.{setsOf}
+use Rattle.blocks.specs.Blocks.{checkBy, isSealed}
+use Rattle.schema.specs.Fields.{editionOf, setsOf}
 use Rattle.schema.specs.Rules.{blockRule, headRule, clash, isPathSlot, masterOfSlot, lettersOfSlot, formRule}
 use Rattle.schema.specs.FormFacts.{head-ok}
 use Rattle.rules.specs.Parts.{apart, bodyRule}
@@ -56,7 +56,7 @@ pub form-short : (s : List ℕ) → (length s ≡ 512 → ⊥) → false ≡ for
 unfolding formRule blockRule
 form-short s h = rw (ne-eqb (length s) 512 h) refl
 
-module _ (s : List ℕ) {b h : Bool} (eb : b ≡ isSealed s 0) (eh : h ≡ headRule s) where
+module _ (s : List ℕ) {b h : Bool} (eb : b ≡ isSealed (checkBy (editionOf s)) s 0) (eh : h ≡ headRule s) where
   pub form-refused : length s ≡ 512 → not (b && h) ≡ true → false ≡ formRule s
   unfolding formRule blockRule
   form-refused l n = rw (eq-eqb (length s) 512 l, ← eb, ← eh, not-true (b && h) n) refl

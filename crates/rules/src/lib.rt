@@ -1,6 +1,7 @@
 // Every rule that document 01, "Blocks and the schema", makes for the schema's form: each function answers what one definition of
 // specs/Rules.antt says. `s` is the schema buffer, `i` an entry's number, `j` a slot's number within its entry, and `p` and `q` number
 // the slots of all entries in schema order. Tests are joined by `&` and `|`, with no early way out: a schema that is in use breaks none.
+use blocks::Check;
 use terms::BlockNo;
 ghost use mathlib.Core.Path.{_≡_};
 ghost use mathlib.Core.Bool.{cond};
@@ -9,7 +10,8 @@ ghost use lib.Dec.{ltb};
 ghost use lib.ListN.{length};
 ghost use Rattle.octets.specs.Octets.{run, allZero, sameBytes};
 ghost use Rattle.octets.specs.Below.{allBelow};
-ghost use Rattle.schema.specs.Fields.{mastersOf, setsOf};
+ghost use Rattle.blocks.specs.Blocks.{checkBy, isSealed};
+ghost use Rattle.schema.specs.Fields.{editionOf, mastersOf, setsOf};
 ghost use Rattle.schema.specs.Rules.{isCapitalOrDigit, headRule, nameRule, masterRule, variableRule, recordsRule, pathRule, slotRule, setRule, entryRule, restRule, namesRule, clash, lettersRule, formRule};
 ghost use Rattle.rules.specs.Parts.{older, apart, bodyRule};
 
@@ -45,13 +47,22 @@ fn same_run(s: &[u8], a: usize, b: usize, n: usize) -> bool
     octets::same(&s[a..c], &s[b..d])
 }
 
+// Is the schema's check true? It is of the kind that its own byte 0 asks for.
+fn sealed(s: &[u8]) -> bool
+    requires { ⌜ length (now s) ≡ 512 ⌝ }
+    ensures { λ r. ⌜ r ≡ isSealed (checkBy (editionOf (now (s .entry)))) (now (s .entry)) 0 ⌝ }
+{
+    blocks::sealed(s, BlockNo(0), Check::of(s[0]))
+}
+
 // "Byte 0 is 1; byte 1 is M, master sets, 1..4; byte 2 is V, variable sets, 0..4; bytes 3..15 zero."
 fn head(s: &[u8]) -> bool
     requires { ⌜ length (now s) ≡ 512 ⌝ }
     ensures { λ r. ⌜ r ≡ headRule (now (s .entry)) ⌝ }
 {
+    let edition = s[0];
     let m = s[1];
-    (s[0] == 1) & ((1 <= m) & (m <= 4)) & (s[2] <= 4) & zeros(s, 3, 13)
+    (edition == 1) & ((1 <= m) & (m <= 4)) & (s[2] <= 4) & zeros(s, 3, 13)
 }
 
 // "name 0..3 (capital letter, then capitals or digits ..)"
@@ -269,8 +280,7 @@ pub fn form(s: &[u8]) -> bool
     if s.len() != 512 {
         return false;
     }
-    let block = blocks::sealed(s, BlockNo(0));
-    if !(block & head(s)) {
+    if !(sealed(s) & head(s)) {
         return false;
     }
     body(s)

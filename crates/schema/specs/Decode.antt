@@ -6,7 +6,7 @@ use lib.Dec.{ltb}
 use lib.ListN.{getD, take, replicate}
 use Rattle.octets.specs.Octets.{byteAt, wordAt}
 use Rattle.octets.specs.Below.{upto}
-use Rattle.schema.specs.Fields.{mastersOf, variablesOf, setsOf, entryAt, slotAt, kindOf, countOf, roomOf, recordsOf, keyLengthOf, masterOf, isPath}
+use Rattle.schema.specs.Fields.{editionOf, mastersOf, variablesOf, setsOf, entryAt, slotAt, kindOf, countOf, roomOf, recordsOf, keyLengthOf, masterOf, isPath}
 use Rattle.schema.specs.Layout.{pathKeyLength, keyPlace, linkPlace, bodyPlace, lengthOf, perBlock, firstBlock, totalBlocks, keepsRules}
 use Rattle.schema.specs.declared.Path.{Path}
 use Rattle.schema.specs.declared.Entry.{Entry}
@@ -26,6 +26,7 @@ emptyEntry =
       room = 0;
       records = 0;
       key = 0;
+      edition = 0;
       per = 0;
       size = 0;
       body = 0;
@@ -34,7 +35,7 @@ emptyEntry =
     }
 
 abbrev pub emptySchema : Schema
-emptySchema = record { masters = 0; variables = 0; blocks = 0; entries = replicate 8 emptyEntry }
+emptySchema = record { edition = 0; masters = 0; variables = 0; blocks = 0; entries = replicate 8 emptyEntry }
 
 -- what the logic reads past an array's end: zeros, and no elements
 abbrev pub noPath : Path
@@ -49,6 +50,7 @@ noEntry =
       room = 0;
       records = 0;
       key = 0;
+      edition = 0;
       per = 0;
       size = 0;
       body = 0;
@@ -94,6 +96,7 @@ fullEntry s i =
       room = roomOf s i;
       records = recordsOf s i;
       key = keyLengthOf s i;
+      edition = editionOf s;
       per = perBlock s i;
       size = lengthOf s i;
       body = bodyPlace s i;
@@ -108,6 +111,7 @@ entryFrom s i = cond (ltb i (setsOf s)) (fullEntry s i) emptyEntry
 unfoldable pub schemaOf : List ℕ → Schema
 schemaOf s =
     record {
+      edition = editionOf s;
       masters = mastersOf s;
       variables = variablesOf s;
       blocks = totalBlocks s;

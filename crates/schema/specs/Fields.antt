@@ -6,6 +6,10 @@ use mathlib.Core.Bool.{Bool}
 use lib.Dec.{ltb}
 use Rattle.octets.specs.Octets.{byteAt, halfAt, wordAt, run}
 
+-- "Byte 0": the schema's edition, which chooses the check of every block
+abbrev pub editionOf : List ℕ → ℕ
+editionOf s = byteAt s 0
+
 -- "byte 1 is M, master sets"; "byte 2 is V, variable sets"; how many sets there are
 abbrev pub mastersOf : List ℕ → ℕ
 mastersOf s = byteAt s 1

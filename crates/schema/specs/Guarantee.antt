@@ -9,8 +9,9 @@ use Rattle.schema.specs.declared.Entry.{Entry}
 use Rattle.schema.specs.declared.Schema.{Schema}
 use Rattle.schema.specs.Decode.{entryOf, pathOf, setCount}
 
--- a set of either kind: R, whole records to a block, and its blocks within the T of the base
+-- a set of either kind: the schema's edition, R, whole records to a block, and its blocks within the T of the base
 pub record SetOk (t : Schema) (e : Entry) : Type 0 where
+  pub edition : e .edition ≡ t .edition
   pub some : 1 ≤ e .records
   pub many : e .records ≤ 65535
   pub per : 1 ≤ e .per

@@ -46,6 +46,7 @@ module _ (s : List ℕ) (kept : keepsRules s ≡ true) where
       let f = set-facts s kept i l in
       let p = per-some s i (f .fits) in
       record {
+        edition = refl;
         some = f .some;
         many = f .many;
         per = p;

@@ -7,8 +7,8 @@ use lib.Dec.{eqb, leb, ltb}
 use lib.ListN.{length}
 use Rattle.octets.specs.Octets.{byteAt, run, allZero, sameBytes}
 use Rattle.octets.specs.Below.{allBelow}
-use Rattle.blocks.specs.Blocks.{isSealed}
-use Rattle.schema.specs.Fields.{mastersOf, variablesOf, setsOf, entryAt, nameOf, kindOf, countOf, recordsOf, keyLengthOf, slotAt, lettersOf, masterOf, isPath}
+use Rattle.blocks.specs.Blocks.{checkBy, isSealed}
+use Rattle.schema.specs.Fields.{editionOf, mastersOf, variablesOf, setsOf, entryAt, nameOf, kindOf, countOf, recordsOf, keyLengthOf, slotAt, lettersOf, masterOf, isPath}
 
 -- A..Z, and A..Z or 0..9
 abbrev pub isCapital : ℕ → Bool
@@ -17,14 +17,15 @@ isCapital x = leb 65 x && leb x 90
 abbrev pub isCapitalOrDigit : ℕ → Bool
 isCapitalOrDigit x = isCapital x || (leb 48 x && leb x 57)
 
--- "The schema is one block, number 0; a schema buffer not of 512 bytes, or with a false check, breaks a rule."
+-- "The schema is one block, number 0; a schema buffer not of 512 bytes, or with a false check, breaks a rule.": the check
+-- that its own byte 0 asks for
 unfoldable pub blockRule : List ℕ → Bool
-blockRule s = eqb (length s) 512 && isSealed s 0
+blockRule s = eqb (length s) 512 && isSealed (checkBy (editionOf s)) s 0
 
 -- "Byte 0 is 1; byte 1 is M, master sets, 1..4; byte 2 is V, variable sets, 0..4; bytes 3..15 zero."
 unfoldable pub headRule : List ℕ → Bool
 headRule s =
-    eqb (byteAt s 0) 1
+    eqb (editionOf s) 1
     && (leb 1 (mastersOf s) && leb (mastersOf s) 4)
     && leb (variablesOf s) 4
     && allZero (run s 3 13)

@@ -37,6 +37,7 @@ pub struct Entry {
     pub room: u16, // D, the data length
     pub records: u32, // R
     pub key: u8, // K, 0 for a variable
+    pub edition: u8, // the schema's
     pub per: u16, // whole records to a block
     pub size: u32, // L, the record length
     pub body: u16, // where the D bytes stand in a record
@@ -45,6 +46,7 @@ pub struct Entry {
 }
 
 pub struct Schema {
+    pub edition: u8, // byte 0
     pub masters: u8, // M
     pub variables: u8, // V
     pub blocks: u32, // T

@@ -6,7 +6,7 @@ use mathlib.Core.List.{List, [], _∷_}
 use lib.Dec.{eqb, leb}
 use Rattle.octets.specs.Octets.{run, allZero, allBlank, sameBytes}
 use Rattle.octets.specs.Below.{allBelow, concatBelow}
-use Rattle.blocks.specs.Blocks.{isSealed}
+use Rattle.blocks.specs.Blocks.{checkBy, isSealed}
 use Rattle.schema.specs.declared.Path.{Path}
 use Rattle.schema.specs.declared.Entry.{Entry}
 use Rattle.schema.specs.declared.Schema.{Schema}
@@ -42,7 +42,7 @@ sameRecords xs ys = within xs ys && within ys xs
 -- ---- "all checks true"
 
 unfoldable pub checksTrue : Schema → List ℕ → Bool
-checksTrue t b = allBelow (isSealed b) (t .blocks)
+checksTrue t b = allBelow (isSealed (checkBy (t .edition)) b) (t .blocks)
 
 -- ---- "states 0 or 1; free records, fillers and leftovers zero"
 

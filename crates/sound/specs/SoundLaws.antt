@@ -9,7 +9,7 @@ use lib.ListN.{length}
 use borrow.Author.Tests.{eqb-true}
 use Rattle.octets.specs.Below.{allBelow}
 use Rattle.octets.specs.BelowLaws.{allBelow-at}
-use Rattle.blocks.specs.Blocks.{isSealed}
+use Rattle.blocks.specs.Blocks.{checkBy, isSealed}
 use Rattle.schema.specs.declared.Entry.{Entry}
 use Rattle.schema.specs.declared.Schema.{Schema}
 use Rattle.schema.specs.Decode.{entryOf, setCount}
@@ -24,9 +24,9 @@ both a b h = and-eq-true-iff a b .0 h
 
 module _ (t : Schema) (b : List ℕ) (h : sound t b ≡ true) where
   -- "all checks true"
-  pub sound-sealed : (n : ℕ) → n < t .blocks → isSealed b n ≡ true
+  pub sound-sealed : (n : ℕ) → n < t .blocks → isSealed (checkBy (t .edition)) b n ≡ true
   unfolding sound checksTrue
-  sound-sealed n l = allBelow-at (isSealed b) (t .blocks) n (both (checksTrue t b) (allBelow (λ i. setSound t b (entryOf t i)) (setCount t)) h .0) l
+  sound-sealed n l = allBelow-at (isSealed (checkBy (t .edition)) b) (t .blocks) n (both (checksTrue t b) (allBelow (λ i. setSound t b (entryOf t i)) (setCount t)) h .0) l
 
   -- every set is sound
   pub sound-set : (i : ℕ) → i < setCount t → setSound t b (entryOf t i) ≡ true

@@ -7,7 +7,6 @@ use Rattle.terms.specs.declared.Status.the-variants.{Done}
 use Rattle.terms.specs.declared.Operation.{Operation}
 use Rattle.terms.specs.declared.Operation.the-variants.{Rdnxt}
 use Rattle.terms.specs.Status.{statusNumber}
-use Rattle.schema.specs.declared.Path.{Path}
 use Rattle.schema.specs.declared.Entry.{Entry}
 use Rattle.schema.specs.declared.Schema.{Schema}
 use Rattle.calls.specs.Call.{Call}
@@ -20,11 +19,12 @@ use Rattle.terms.specs.Laws.{not-done}
 use Rattle.ends.specs.Asks.{placedStatus, pastGeneral, placedOutcome, Answers}
 use Rattle.master_calls.specs.Masters.{Places, AnswersOn, AnswersIn}
 use Rattle.master_calls.specs.declared.Placed.{Placed}
+use Rattle.records.specs.InBase.{MastersOf}
 use Rattle.point_calls.specs.declared.Located.{Located}
-use Rattle.point_calls.specs.OnPath.{Locates, AnswersOnPath, AnswersUnder}
+use Rattle.point_calls.specs.OnPath.{Locates, AnswersOnPath, AnswersAmong}
 use Rattle.sweep.specs.declared.AnySet.{AnySet}
 use Rattle.sweep.specs.Swept.{Sweeps, SweptOn}
-use Rattle.store.specs.Decides.{AnswersNamed}
+use Rattle.store.specs.Decides.{AnswersNamed, AnswersUnder}
 
 pub behind-refused : (t : Schema) (c : Call) (u : Status) → u ≡ placedStatus t c → 0 < statusNumber u → Ends (pastGeneral t c) u (c .reference) (c .area) (c .base)
 unfolding pastGeneral
@@ -73,18 +73,18 @@ module _ (t : Schema) (o : Operation) (n w : List ℕ) (r : ℕ) (k a b : List �
   path-refused g e f =
       record { told = λ c h p. rw (e, f, ← h .reference, ← h .area, ← h .base) (behind-refused t c (l .status) (at .status c (asks-its-base h) p) g) }
 
-  pub path-carried : {s : Status} {q : ℕ} {new after : List ℕ} → l .status ≡ Done
-      → AnswersUnder t o (l .entry) (l .on) (l .path) (l .masters) r k a b s q new after → AnswersNamed t o n w r k a b s q new after
+  pub path-carried : {s : Status} {q : ℕ} {new after : List ℕ} → l .status ≡ Done → AnswersUnder t o l r k a b s q new after → AnswersNamed t o n w r k a b s q new after
   path-carried d f =
       record {
         told = λ c h p.
             rw (behind-placed t c (sym d ∙ at .status c (asks-its-base h) p))
-            (f .told c (l .number .0) (asks-its-name h) (at .on-path d c (asks-its-base h) p));
+            (f .told c (asks-its-name h) (at .on-path d c (asks-its-base h) p));
       }
 
-module _ (t : Schema) (u o : Operation) (w : u ≡ o) (e : Entry) (on : ℕ) (p : Path) (x : Entry) (r : ℕ) (k a b : List ℕ) {s : Status} {q : ℕ} {new after : List ℕ} where
-  pub along-path : AnswersOnPath o e p x r k a b s q new after → AnswersUnder t u e on p x r k a b s q new after
-  along-path h = record { told = λ c n asks at. h .told t c n on (asks-as asks w) at }
+module _ (t : Schema) (u o : Operation) (w : u ≡ o) (l : Located) (r : ℕ) (k a b : List ℕ) {s : Status} {q : ℕ} {new after : List ℕ} where
+  pub along-path : AnswersOnPath o (l .entry) (l .path) (l .masters) r k a b s q new after → AnswersUnder t u l r k a b s q new after
+  along-path h = record { told = λ c asks at. h .told t c (l .number .0) (l .on) (asks-as asks w) at }
 
-  pub under-path : AnswersUnder t o e on p x r k a b s q new after → AnswersUnder t u e on p x r k a b s q new after
-  under-path h = record { told = λ c n asks at. h .told c n (asks-as asks w) at }
+  pub along-paths : {all : List Entry} → MastersOf t (l .entry) all → AnswersAmong o (l .entry) (l .on) (l .path) (l .masters) all r k a b s q new after
+      → AnswersUnder t u l r k a b s q new after
+  along-paths of h = record { told = λ c asks at. h .told t c (l .number .0) (asks-as asks w) at of }

@@ -12,6 +12,7 @@ use Rattle.terms.specs.Operation.{operationOf}
 use Rattle.schema.specs.declared.Schema.{Schema}
 use Rattle.schema.specs.Decode.{schemaOf}
 use Rattle.schema.specs.Layout.{keepsRules}
+use Rattle.blocks.specs.Blocks.{checkBy}
 use Rattle.plans.specs.Plan.{formatted}
 use Rattle.sound.specs.Sound.{sound}
 use Rattle.calls.specs.Call.{Call, oneOf}
@@ -41,7 +42,7 @@ module _ (t : Schema) (o : Operation) (n : List ℕ) (r : ℕ) (p k a b : List �
     decides-unknown z e f =
         record { told = λ c h path kept here. rw (e, f) (given-back h (unknown-ends t c kept here (sized-here c h) (h .operation ∙ z))) }
 
-    pub decides-format : {s : Status} {q : ℕ} {new : List ℕ} → o ≡ Formt → new ≡ formatted (t .blocks) → s ≡ Done → q ≡ r → Decides t o n r p k a b s q a new
+    pub decides-format : {s : Status} {q : ℕ} {new : List ℕ} → o ≡ Formt → new ≡ formatted (checkBy (t .edition)) (t .blocks) → s ≡ Done → q ≡ r → Decides t o n r p k a b s q a new
     decides-format z w e f =
         record { told = λ c h path kept here. rw (e, f, w, ← h .reference, ← h .area) (format-ends t c kept here (sized-here c h) (h .operation ∙ z)) }
 

@@ -13,7 +13,6 @@ use Rattle.store.specs.declared.kinds.OnMasters.{OnMasters}
 use Rattle.store.specs.declared.kinds.OnMasters.the-variants as M
 use Rattle.store.specs.declared.kinds.OnPoints.{OnPoints}
 use Rattle.store.specs.declared.kinds.OnPoints.the-variants as P
-use Rattle.store.specs.declared.kinds.Kind.{Kind}
 use Rattle.store.specs.declared.kinds.Kind.the-variants as K
 use Rattle.store.specs.Kinds.{masterOperation, pointOperation, operationKind, operationIn}
 

@@ -13,15 +13,16 @@ use Rattle.terms.specs.Operation.{operationOf}
 use Rattle.schema.specs.declared.Schema.{Schema}
 use Rattle.schema.specs.Decode.{schemaOf}
 use Rattle.schema.specs.Layout.{keepsRules}
+use Rattle.blocks.specs.Blocks.{checkBy}
 use Rattle.plans.specs.Plan.{storeAll, sealAll, committed, formatted}
 use Rattle.sound.specs.Sound.{sound}
 use Rattle.calls.specs.SceneLaws.{schema-here, operation-here}
 use Rattle.calls.specs.Call.{Call, oneOf}
 use Rattle.calls.specs.Scene.{sceneUnder}
-use Rattle.calls.specs.Ladder.{refusal, generalTests, ladder}
+use Rattle.calls.specs.Ladder.{generalRungs, placeRungs, formRungs, ladder, refusal}
 use Rattle.calls.specs.Reply.{given, referenceAfter, areaAfter, storesOf, baseAfter}
 use Rattle.calls.specs.Outcome.{done, outcomeIn, outcome}
-use Rattle.calls.specs.Answer.{answered, placeTests, formTests, refusal-groups}
+use Rattle.calls.specs.Answer.{answered, refusal-groups}
 use Rattle.calls.specs.RestLaws.{rest-sinon, rest-formt}
 use Rattle.ends.specs.Ends.{Ends}
 use Rattle.ends.specs.EndsLaws.{refused-ends}
@@ -33,7 +34,7 @@ unfolding outcome outcomeIn ladder refusal
 schema-ends c k = rw k (record { status = refl; reference = refl; area = refl; base = refl })
 
 module _ (t : Schema) (c : Call) (kept : keepsRules (c .schema) ≡ true) (here : schemaOf (c .schema) ≡ t) where
-  outcome-under : outcome c ≡ answered (sceneUnder t c) c (refusal (ladder (sceneUnder t c) c))
+  outcome-under : outcome c ≡ answered (sceneUnder t c) c (refusal (sceneUnder t c) c (ladder (sceneUnder t c)))
   unfolding outcome outcomeIn answered
   outcome-under = rw here refl
 
@@ -52,7 +53,7 @@ module _ (t : Schema) (c : Call) (kept : keepsRules (c .schema) ≡ true) (here 
         rw outcome-under
         (refused-ends (sceneUnder t c) c _ Func (rw (kept, schema-here t c, eq-eqb (length (c .base)) (t .blocks * 512) sized, operation-here t c, e) refl) (omega arith))
 
-    general-pass : oneOf (operationOf (c .operation)) (Unknown ∷ []) ≡ false → refusal (generalTests (sceneUnder t c) c) ≡ Done
+    general-pass : oneOf (operationOf (c .operation)) (Unknown ∷ []) ≡ false → refusal (sceneUnder t c) c generalRungs ≡ Done
     unfolding refusal
     general-pass e = rw (kept, schema-here t c, eq-eqb (length (c .base)) (t .blocks * 512) sized, operation-here t c, e) refl
 
@@ -61,16 +62,16 @@ module _ (t : Schema) (c : Call) (kept : keepsRules (c .schema) ≡ true) (here 
     unfolding pastGeneral
     outcome-behind e =
         outcome-under ∙ ap (answered (sceneUnder t c) c)
-        (refusal-groups (sceneUnder t c) c ∙ (rw (general-pass e) (sym (firstOf-assoc (refusal (placeTests (sceneUnder t c) c)) (refusal (formTests (sceneUnder t c) c)) _))))
+        (refusal-groups (sceneUnder t c) c ∙ (rw (general-pass e) (sym (firstOf-assoc (refusal (sceneUnder t c) c placeRungs) (refusal (sceneUnder t c) c formRungs) _))))
 
     -- ---- FORMT and SINON: "FORMT and SINON test no more parameters"
 
     format-answers : operationOf (c .operation) ≡ Formt
-        → pastGeneral t c ≡ record { status = Done; reference = c .reference; area = c .area; base = formatted (t .blocks) }
+        → pastGeneral t c ≡ record { status = Done; reference = c .reference; area = c .area; base = formatted (checkBy (t .edition)) (t .blocks) }
     unfolding pastGeneral refusal answered done referenceAfter areaAfter given baseAfter
     format-answers e = rw (rest-formt (sceneUnder t c) c (operation-here t c ∙ e), operation-here t c, e, schema-here t c) refl
 
-    pub format-ends : operationOf (c .operation) ≡ Formt → Ends (outcome c) Done (c .reference) (c .area) (formatted (t .blocks))
+    pub format-ends : operationOf (c .operation) ≡ Formt → Ends (outcome c) Done (c .reference) (c .area) (formatted (checkBy (t .edition)) (t .blocks))
     format-ends e = rw (outcome-behind (rw e refl), format-answers e) (record { status = refl; reference = refl; area = refl; base = refl })
 
     sign-on-answers : operationOf (c .operation) ≡ Sinon → pastGeneral t c ≡ answered (sceneUnder t c) c (cond (not (sound t (c .base))) Damg Done)

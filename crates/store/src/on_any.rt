@@ -4,6 +4,7 @@ use ends::ended;
 use schema::Schema;
 use sweep::find_any;
 use sweep::rdnxt;
+use sweep::with_forms;
 use terms::Reference;
 ghost use mathlib.Core.Path.{_≡_};
 ghost use lib.ListN.{length};
@@ -23,7 +24,8 @@ pub(crate) fn on_any(
     requires { ⌜ length (now set) ≡ 4 ⌝ }
     ensures { λ a. ⌜ Answers t Rdnxt (now (set .entry)) (reference .0) (now (key .entry)) (now (area .entry)) (now (base .entry)) (a .status) (a .reference .0) (now (area .exit)) (now (base .entry)) ⌝ }
 {
-    let p = find_any(t, set, reference, key, area);
+    let found = find_any(t, set);
+    let p = with_forms(found, reference, key, area);
     let status = p.status;
     if status.number() != 0 {
         return ended(status, reference);

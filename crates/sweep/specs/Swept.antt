@@ -7,6 +7,7 @@ use lib.Dec.{ltb}
 use lib.ListN.{length}
 use Rattle.terms.specs.declared.Status.{Status}
 use Rattle.terms.specs.declared.Status.the-variants.{Done, Fntf}
+use Rattle.terms.specs.Status.{firstOf}
 use Rattle.terms.specs.declared.Operation.the-variants.{Rdnxt}
 use Rattle.schema.specs.declared.Entry.{Entry}
 use Rattle.schema.specs.declared.Schema.{Schema}
@@ -26,12 +27,14 @@ pub record SetSwept (t : Schema) (r : ℕ) (a : List ℕ) (e : Entry) : Type 0 w
   pub reference : r ≤ e .records
   pub area : length a ≡ areaLength e
 
--- 4 to 11 by form, on set number i: a number that no set has is refused, with the schema's first set in its place
-abbrev pub sweptAt : Schema → ℕ → ℕ → List ℕ → List ℕ → AnySet
-sweptAt t i r key area =
-    cond (ltb i (setCount t))
-    (record { status = formStatus Rdnxt (entryOf t i) 0 0 (entryOf t i .key) r key area; entry = entryOf t i })
-    (record { status = Fntf; entry = entryOf t 0 })
+-- 4, on set number i: a number that no set has is refused, with the schema's first set in its place
+abbrev pub sweptAt : Schema → ℕ → AnySet
+sweptAt t i = cond (ltb i (setCount t)) (record { status = Done; entry = entryOf t i }) (record { status = Fntf; entry = entryOf t 0 })
+
+-- and 7 and 11 by form there
+abbrev pub formedAny : AnySet → ℕ → List ℕ → List ℕ → AnySet
+formedAny p r key area =
+    record { status = firstOf (p .status) (formStatus Rdnxt (p .entry) 0 0 (p .entry .key) r key area); entry = p .entry }
 
 -- what every RDNXT that asks with these parameters has come to
 pub record Sweeps (t : Schema) (n : List ℕ) (r : ℕ) (k a : List ℕ) (p : AnySet) : Type 0 where

@@ -18,15 +18,15 @@ use Rattle.schema.specs.declared.Entry.{Entry}
 use Rattle.schema.specs.declared.Schema.{Schema}
 use Rattle.schema.specs.Decode.{entryOf, setCount}
 use Rattle.records.specs.Areas.{areaLength}
-use Rattle.masters.specs.Find.{nextLive}
+use Rattle.scan.specs.Scan.{nextLive}
 use Rattle.calls.specs.SceneLaws.{entry-here}
 use Rattle.calls.specs.Call.{Call, callOf}
 use Rattle.calls.specs.Scene.{Scene, sceneUnder}
 use Rattle.schema.specs.Naming.{setNamed, linkOf}
 use Rattle.schema.specs.NamingLaws.{set-named}
-use Rattle.calls.specs.Ladder.{refusal, wrongKind}
+use Rattle.calls.specs.Ladder.{wrongKind, placeRungs, formRungs, seekRungs, restRungs, refusal}
 use Rattle.calls.specs.Reply.{orNone, given, referenceAfter, storesOf}
-use Rattle.calls.specs.Answer.{answered, placeTests, formTests, seekTests, restTests}
+use Rattle.calls.specs.Answer.{answered}
 use Rattle.calls.specs.RestLaws.{rest-rdnxt}
 use Rattle.forms.specs.Form.{formStatus}
 use Rattle.forms.specs.FormLaws.{form-tests, form-link, form-on-unasked}
@@ -36,19 +36,20 @@ use Rattle.ends.specs.Ends.{Ends, gave}
 use Rattle.ends.specs.EndsLaws.{gave-answers}
 use Rattle.ends.specs.Asks.{Asks, placedOutcome}
 use Rattle.records.specs.InBase.{Laid, IsSetOf}
+use Rattle.records.specs.Fields.{Fields}
 use Rattle.sweep.specs.declared.AnySet.{AnySet}
-use Rattle.sweep.specs.Swept.{sweptAt, Sweeps, SweptOn}
+use Rattle.sweep.specs.Swept.{sweptAt, formedAny, Sweeps, SweptOn}
 
 -- ---- the ladder
 
 module _ (t : Schema) (c : Call) (q : operationOf (c .operation) ≡ Rdnxt) where
   -- 4: both kinds are right, and no path is asked for
-  place-sweep : refusal (placeTests (sceneUnder t c) c) ≡ cond (not (ltb (setNamed t (c .name)) (setCount t))) Fntf Done
+  place-sweep : refusal (sceneUnder t c) c placeRungs ≡ cond (not (ltb (setNamed t (c .name)) (setCount t))) Fntf Done
   unfolding sceneUnder refusal wrongKind
   place-sweep = rw q refl
 
   -- 7 and 11
-  form-sweep : refusal (formTests (sceneUnder t c) c)
+  form-sweep : refusal (sceneUnder t c) c formRungs
       ≡ formStatus Rdnxt (entryOf t (setNamed t (c .name))) 0 0 (entryOf t (setNamed t (c .name)) .key) (c .reference) (c .key) (c .area)
   unfolding sceneUnder
   form-sweep =
@@ -58,7 +59,7 @@ module _ (t : Schema) (c : Call) (q : operationOf (c .operation) ≡ Rdnxt) wher
       ∙ form-link Rdnxt e (e .key) (c .reference) (c .key) (c .area) 0 _ 0 refl))
 
   -- no master is looked for
-  seek-sweep : refusal (seekTests (sceneUnder t c) c) ≡ Done
+  seek-sweep : refusal (sceneUnder t c) c seekRungs ≡ Done
   unfolding sceneUnder refusal
   seek-sweep = rw q refl
 
@@ -85,17 +86,17 @@ module _ (t : Schema) (n : List ℕ) (r : ℕ) (key area : List ℕ) where
   e = entryOf t (setNamed t n)
 
   -- what every call that asks so has of the tests
-  first-one : (c : Call) → Asks c Rdnxt n r key area (c .base) → refusal (placeTests (sceneUnder t c) c) ≡ cond (not (ltb i (setCount t))) Fntf Done
+  first-one : (c : Call) → Asks c Rdnxt n r key area (c .base) → refusal (sceneUnder t c) c placeRungs ≡ cond (not (ltb i (setCount t))) Fntf Done
   first-one c h = rw (← h .name) (place-sweep t c (h .operation))
 
-  form-so : (c : Call) → Asks c Rdnxt n r key area (c .base) → refusal (formTests (sceneUnder t c) c) ≡ formStatus Rdnxt e 0 0 (e .key) r key area
+  form-so : (c : Call) → Asks c Rdnxt n r key area (c .base) → refusal (sceneUnder t c) c formRungs ≡ formStatus Rdnxt e 0 0 (e .key) r key area
   form-so c h = rw (← h .name, ← h .reference, ← h .key, ← h .area) (form-sweep t c (h .operation))
 
-  pub sweeps-set : {p : AnySet} → Laid t (512 * t .blocks) → p ≡ sweptAt t (setNamed t n) r key area → Sweeps t n r key area p
-  sweeps-set w h = rw h (go (ltb i (setCount t)) refl)
+  pub sweeps-set : {p q : AnySet} → Laid t (512 * t .blocks) → q ≡ sweptAt t (setNamed t n) → p ≡ formedAny q r key area → Sweeps t n r key area p
+  sweeps-set w g h = rw (h, g) (go (ltb i (setCount t)) refl)
     where
       go : (f : Bool) → ltb i (setCount t) ≡ f
-          → Sweeps t n r key area (cond f (record { status = formStatus Rdnxt e 0 0 (e .key) r key area; entry = e }) (record { status = Fntf; entry = entryOf t 0 }))
+          → Sweeps t n r key area (formedAny (cond f (record { status = Done; entry = e }) (record { status = Fntf; entry = entryOf t 0 })) r key area)
       go false f =
           record { status = λ c h. rw (first-one c h, f) refl; on-set = refused-done {u = Fntf} refl (omega arith); known = refused-done {u = Fntf} refl (omega arith) }
       go true f =
@@ -109,6 +110,15 @@ module _ (t : Schema) (n : List ℕ) (r : ℕ) (key area : List ℕ) where
             };
           }
 
+-- a set that is there has its fields
+pub swept-fields : (t : Schema) (i : ℕ) {q : AnySet} {n : ℕ} → Laid t n → q ≡ sweptAt t i → q .status ≡ Done → Fields (q .entry)
+swept-fields t i w h = rw h (go (ltb i (setCount t)) refl)
+  where
+    go : (f : Bool) → ltb i (setCount t) ≡ f
+        → (let q : AnySet = cond f (record { status = Done; entry = entryOf t i }) (record { status = Fntf; entry = entryOf t 0 }) in q .status ≡ Done → Fields (q .entry))
+    go false f = refused-done {u = Fntf} refl (omega arith)
+    go true f = λ d. w .fields i (ltb-true _ _ f)
+
 -- ---- the record that it gives
 
 pub none-within : (e : Entry) (r : ℕ) → orNone e r ≤ e .records
@@ -120,10 +130,10 @@ none-within e r = go (ltb (e .records) r) refl
 
 module _ (e : Entry) (r : ℕ) (area b : List ℕ) where
   sweep-gives : (x : Scene) (c : Call) → x .operation ≡ Rdnxt → x .entry ≡ e → c .reference ≡ r → c .base ≡ b → c .area ≡ area
-      → answered x c (refusal (restTests x c)) ≡ gave b e (orNone e (nextLive b e r)) area
+      → answered x c (refusal x c (restRungs x)) ≡ gave b e (orNone e (nextLive b e r)) area
   unfolding given referenceAfter storesOf
   sweep-gives x c o w hr hb ha =
-      rw (← hb, ← ha, ← hr, ← w) (gave-answers x c (refusal (restTests x c)) _ (rest-rdnxt x c o) (rw o refl) (rw o refl) (rw o refl) (rw o refl))
+      rw (← hb, ← ha, ← hr, ← w) (gave-answers x c (refusal x c (restRungs x)) _ (rest-rdnxt x c o) (rw o refl) (rw o refl) (rw o refl) (rw o refl))
 
   pub sweep-ends : {s : Status} {q : ℕ} {new : List ℕ} (g : ℕ) → g ≡ orNone e (nextLive b e r) → Ends (gave b e g area) s q new b → SweptOn e r area b s q new b
   unfolding placedOutcome

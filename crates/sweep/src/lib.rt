@@ -1,7 +1,7 @@
 // RDNXT: the live records of a set of either kind, one after the other by their numbers.
 use ends::Answer;
 use ends::give;
-use masters::scan::next_live;
+use scan::next_live;
 use schema::Entry;
 use schema::Schema;
 use schema::layout::entry_of;
@@ -17,7 +17,9 @@ ghost use Rattle.schema.specs.Naming.{setNamed};
 ghost use Rattle.records.specs.Areas.{areaLength};
 ghost use Rattle.calls.specs.Reply.{orNone};
 ghost use Rattle.records.specs.InBase.{Laid, IsSet};
-ghost use Rattle.sweep.specs.Swept.{sweptAt, SweptOn};
+ghost use Rattle.terms.specs.declared.Status.the-variants.{Done};
+ghost use Rattle.records.specs.Fields.{Fields};
+ghost use Rattle.sweep.specs.Swept.{sweptAt, formedAny, SweptOn};
 
 // The set that the call speaks of, where the status is Done.
 pub struct AnySet {
@@ -25,11 +27,11 @@ pub struct AnySet {
     pub entry: Entry,
 }
 
-// 4 to 11 by form: RDNXT takes sets of both kinds, and neither its path nor its key is looked at.
-pub fn find_any(t: Schema, set: &[u8], reference: Reference, key: &[u8], area: &[u8]) -> AnySet
+// 4: RDNXT takes sets of both kinds, and its path is not looked at.
+pub fn find_any(t: Schema, set: &[u8]) -> AnySet
     requires { ⌜ Laid t (512 * t .blocks) ⌝ }
     requires { ⌜ length (now set) ≡ 4 ⌝ }
-    ensures { λ p. ⌜ p ≡ sweptAt t (setNamed t (now (set .entry))) (reference .0) (now (key .entry)) (now (area .entry)) ⌝ }
+    ensures { λ p. ⌜ p ≡ sweptAt t (setNamed t (now (set .entry))) ⌝ }
 {
     let n = names::set_named(t, set);
     if sets(t) <= n.0 {
@@ -39,6 +41,22 @@ pub fn find_any(t: Schema, set: &[u8], reference: Reference, key: &[u8], area: &
         };
     }
     let e = entry_of(t, n);
+    AnySet {
+        status: Status::Done,
+        entry: e,
+    }
+}
+
+// 7 and 11 by form, where nothing before has refused: of RDNXT's key nothing is asked.
+pub fn with_forms(p: AnySet, reference: Reference, key: &[u8], area: &[u8]) -> AnySet
+    requires { ⌜ (p .status ≡ Done → Fields (p .entry)) ⌝ }
+    ensures { λ q. ⌜ q ≡ formedAny p (reference .0) (now (key .entry)) (now (area .entry)) ⌝ }
+{
+    let before = p.status;
+    if before.number() != 0 {
+        return p;
+    }
+    let e = p.entry;
     let status = forms::form_status(Operation::Rdnxt, e, 0, 0, e.key, reference.0, key, area);
     AnySet { status, entry: e }
 }

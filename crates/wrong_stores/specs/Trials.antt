@@ -11,9 +11,10 @@ use Rattle.terms.specs.Terms.{endRef, linkRef}
 use Rattle.terms.specs.Status.{statusNumber}
 use Rattle.calls.specs.Call.{Call, Outcome}
 use Rattle.calls.specs.Outcome.{outcome}
-use Rattle.condition3.specs.Readings.{Request, under, afterCalls}
+use Rattle.condition3.specs.Readings.{Request, Lent, lentAfter, under, afterCalls, Reader, readerOf}
+use Rattle.condition3.specs.Condition.{sinon, formt}
 use Rattle.wrong_stores.specs.Wrong.{refusesAll, alwaysDone, storesNothing, linksFirst, forgetsNext, formatLeaves, insertsAfter, readsForward, sweepsNothing}
-use Rattle.wrong_stores.specs.Twin.{twin, formt, signOn, addBottle, addPoint, removePoint, path1, path2, readFrom, readBack, twinLink, sweepFrom}
+use Rattle.wrong_stores.specs.Twin.{twinSchema, addBottle, addPoint, removePoint, path1, path2, readFrom, readBack, twinLink, sweepFrom}
 
 -- FORMT is given `base`; the calls follow, then the questions
 pub record Trial : Type 0 where
@@ -25,16 +26,25 @@ pub record Trial : Type 0 where
   pub right : List ℕ
 
 -- the status and the reference that each question is answered with
-unfoldable pub answers : (Call → Outcome) → List ℕ → List Request → List ℕ
-answers store b [] = []
-answers store b (q ∷ qs) = statusNumber (store (under twin b q) .status) ∷ store (under twin b q) .reference ∷ answers store b qs
+unfoldable pub answers : (Call → Outcome) → Lent → List Request → List ℕ
+answers store d [] = []
+answers store d (q ∷ qs) = statusNumber (store (under twinSchema d q) .status) ∷ store (under twinSchema d q) .reference ∷ answers store d qs
 
--- the data base that FORMT leaves, the one after the calls, and the answers
-abbrev pub formattedBy : (Call → Outcome) → Trial → List ℕ
-formattedBy store x = store (under twin (x .base) formt) .base
+-- what FORMT is lent, what it answers and leaves, what the calls leave, who reads then, and the answers
+abbrev pub lentTo : Trial → Lent
+lentTo x = record { base = x .base }
 
-abbrev pub leftBy : (Call → Outcome) → Trial → List ℕ
-leftBy store x = afterCalls store twin (formattedBy store x) (x .calls)
+abbrev pub formatBy : (Call → Outcome) → Trial → Outcome
+formatBy store x = store (under twinSchema (lentTo x) formt)
+
+abbrev pub formattedBy : (Call → Outcome) → Trial → Lent
+formattedBy store x = lentAfter (formatBy store x)
+
+abbrev pub leftBy : (Call → Outcome) → Trial → Lent
+leftBy store x = afterCalls store twinSchema (formattedBy store x) (x .calls)
+
+abbrev pub readerAfter : (Call → Outcome) → Trial → Reader
+readerAfter store x = readerOf store twinSchema (leftBy store x)
 
 abbrev pub toldBy : (Call → Outcome) → Trial → List ℕ
 toldBy store x = answers store (leftBy store x) (x .questions)
@@ -47,7 +57,7 @@ Differs x = (toldBy (x .store) x ≡ x .wrong) × (toldBy outcome x ≡ x .right
 
 -- sign-on after the calls: it is to accept, and refuses
 abbrev pub signing : (Call → Outcome) → List ℕ → List Request → Trial
-signing store base calls = record { store = store; base = base; calls = calls; questions = signOn ∷ []; wrong = 16 ∷ 0 ∷ []; right = 0 ∷ 0 ∷ [] }
+signing store base calls = record { store = store; base = base; calls = calls; questions = sinon ∷ []; wrong = 16 ∷ 0 ∷ []; right = 0 ∷ 0 ∷ [] }
 
 -- reads after the calls
 abbrev reading : (Call → Outcome) → List Request → List Request → List ℕ → List ℕ → Trial
@@ -58,7 +68,7 @@ reading store calls questions wrong right =
 
 -- sign-on is FUNC
 abbrev pub refusing : Trial
-refusing = record { store = refusesAll; base = zeros 1024; calls = []; questions = signOn ∷ []; wrong = 3 ∷ 0 ∷ []; right = 0 ∷ 0 ∷ [] }
+refusing = record { store = refusesAll; base = zeros 1024; calls = []; questions = sinon ∷ []; wrong = 3 ∷ 0 ∷ []; right = 0 ∷ 0 ∷ [] }
 
 -- a bottle with no points reads END.; the wrong store gives LKQT back
 abbrev pub doing : Trial

@@ -4,10 +4,10 @@ use Prim.Native.Nat.{ℕ}
 use mathlib.Core.List.{List, [], _∷_, _++_}
 use Rattle.octets.specs.Octets.{wordBytes, zeros}
 use Rattle.octets.specs.Text.{text}
+use Rattle.blocks.specs.declared.Check.the-variants.{Sum}
 use Rattle.blocks.specs.Blocks.{seal}
-use Rattle.schema.specs.Decode.{schemaOf}
 use Rattle.condition3.specs.Plain.{Point}
-use Rattle.condition3.specs.Readings.{Request, Place, link, noSetName, noPathName}
+use Rattle.condition3.specs.Readings.{Request, requestOf, Fixed, schemaIn, Place, link, noPathName}
 use Rattle.cases.specs.Small.{twoSets, botl}
 
 -- D 4, R 3, paths BOTLLKPT and BOTLLKQT
@@ -15,26 +15,23 @@ abbrev twinPoints : List ℕ
 twinPoints = text "PNTS" ++ (2 ∷ 2 ∷ 0 ∷ 4 ∷ wordBytes 3 ++ (zeros 4 ++ (text "PT" ++ (zeros 6 ++ (text "QT" ++ zeros 22)))))
 
 unfoldable pub twin : List ℕ
-twin = seal (twoSets botl twinPoints) 0
+twin = seal Sum (twoSets botl twinPoints) 0
+
+-- the schema of every trial
+abbrev pub twinSchema : Fixed
+twinSchema = record { schema = twin }
 
 abbrev pub bottle : List ℕ
 bottle = text "B001"
 
 -- ---- the calls
 
-abbrev pub formt : Request
-formt = record { operation = text "FORMT"; name = noSetName; reference = 0; path = noPathName; key = []; area = [] }
-
-abbrev pub signOn : Request
-signOn = record { operation = text "SINON"; name = noSetName; reference = 0; path = noPathName; key = []; area = [] }
-
 abbrev pub addBottle : Request
-addBottle = record { operation = text "ADD-M"; name = text "BOTL"; reference = 0; path = noPathName; key = bottle; area = bottle ++ text "NECK" }
+addBottle = requestOf (text "ADD-M") (text "BOTL") 0 noPathName bottle (bottle ++ text "NECK")
 
 -- a call on the first path
 abbrev pointCall : List ℕ → ℕ → List ℕ → Request
-pointCall operation r area =
-    record { operation = operation; name = text "PNTS"; reference = r; path = text "BOTLLKPT"; key = bottle; area = area }
+pointCall operation r area = requestOf operation (text "PNTS") r (text "BOTLLKPT") bottle area
 
 -- an add of a point: ADDVC, ADDVB or ADDVA; all points have the same bytes
 abbrev pointArea : List ℕ
@@ -63,7 +60,7 @@ path2 = onPath (text "BOTLLKQT")
 
 -- READV or READR of the bottle's points from the reference r on, the reference LKxx, and RDNXT
 abbrev readPoint : List ℕ → Place → ℕ → Request
-readPoint operation w r = record { operation = operation; name = w .set; reference = r; path = w .path; key = bottle; area = w .point-area }
+readPoint operation w r = requestOf operation (w .set) r (w .path) bottle (w .point-area)
 
 abbrev pub readFrom : Place → ℕ → Request
 readFrom = readPoint (text "READV")
@@ -72,7 +69,7 @@ abbrev pub readBack : Place → ℕ → Request
 readBack = readPoint (text "READR")
 
 abbrev pub twinLink : Place → ℕ
-twinLink w = link (schemaOf twin) w
+twinLink w = link (schemaIn twinSchema) w
 
 abbrev pub sweepFrom : Place → ℕ → Request
-sweepFrom w r = record { operation = text "RDNXT"; name = w .set; reference = r; path = noPathName; key = []; area = w .point-area }
+sweepFrom w r = requestOf (text "RDNXT") (w .set) r noPathName [] (w .point-area)

@@ -15,6 +15,8 @@ use Rattle.terms.specs.declared.Operation.the-variants.{Formt, Rdnxt, Delvd}
 use Rattle.terms.specs.Operation.{operationOf}
 use Rattle.schema.specs.Decode.{entryOf, schemaOf}
 use Rattle.schema.specs.Place.{recordOf}
+use Rattle.blocks.specs.declared.Check.{Check}
+use Rattle.blocks.specs.Blocks.{checkBy}
 use Rattle.plans.specs.Plan.{Store, storeRecord, committed}
 use Rattle.calls.specs.Call.{Call, Outcome, callOf, oneOf, adds}
 use Rattle.calls.specs.Scene.{sceneOf}
@@ -44,9 +46,13 @@ storesNothing c = leaving c (c .base)
 abbrev did : List Operation → Call → Bool
 did os c = oneOf (operationOf (c .operation)) os && eqb (statusNumber (outcome c .status)) 0
 
+-- the kind of check that the call's schema asks for
+abbrev checkFor : Call → Check
+checkFor c = checkBy (sceneOf c .schema .edition)
+
 -- the stores of these operations are changed by f
 abbrev storing : List Operation → (List Store → List Store) → Call → Outcome
-storing os f c = leaving c (cond (did os c) (committed (c .base) (f (storesOf (sceneOf c) c))) (outcome c .base))
+storing os f c = leaving c (cond (did os c) (committed (checkFor c) (c .base) (f (storesOf (sceneOf c) c))) (outcome c .base))
 
 -- an add stores the new record and the two sides of the first path
 unfoldable pub linksFirst : Call → Outcome
@@ -66,7 +72,7 @@ unfoldable pub formatLeaves : Call → Outcome
 formatLeaves c =
     leaving c
     (cond (did (Formt ∷ []) c)
-    (committed (outcome c .base)
+    (committed (checkFor c) (outcome c .base)
     (storeRecord (entryOf (schemaOf (c .schema)) 0) 1 (recordOf (c .base) (entryOf (schemaOf (c .schema)) 0) 1) ∷ []))
     (outcome c .base))
 

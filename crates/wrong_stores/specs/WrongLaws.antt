@@ -7,22 +7,20 @@ use mathlib.Core.Logic.{_≢_, inl, inr}
 use mathlib.Core.List.{List, [], _∷_}
 use native.Mathlib.Omega.{arith}
 use lib.ListN.{getD}
-use Rattle.octets.specs.Octets.{zeros}
 use Rattle.octets.specs.RunLaws.{eq-sameBytes}
 use Rattle.octets.specs.TestLaws.{never-both}
 use Rattle.terms.specs.Terms.{endRef}
 use Rattle.terms.specs.Status.{statusNumber}
 use Rattle.schema.specs.declared.Entry.{Entry}
-use Rattle.schema.specs.Decode.{schemaOf}
 use Rattle.calls.specs.Call.{Call, Outcome}
 use Rattle.calls.specs.Outcome.{IsOutcome}
 use Rattle.condition3.specs.Plain.{Point}
-use Rattle.condition3.specs.Readings.{Request, Reads, Place, setNo, pathNo, rdnxt, readv, ofKey, SameOnce}
+use Rattle.condition3.specs.Readings.{Request, schemaIn, Lent, noneLent, Reader, readerOf, Reads, Place, setNo, pathNo, rdnxt, readv, ofKey, SameOnce}
 use Rattle.condition3.specs.Condition.{Formatted, Kept, Condition3}
 use Rattle.condition3.specs.Theorem.{is-outcome}
 use Rattle.wrong_stores.specs.Wrong.{refusesAll, alwaysDone, storesNothing, linksFirst, forgetsNext, formatLeaves, insertsAfter, readsForward, sweepsNothing}
-use Rattle.wrong_stores.specs.Twin.{twin, bottle, point, path1, path2, twinLink}
-use Rattle.wrong_stores.specs.Trials.{Trial, answers, formattedBy, leftBy, toldBy, Differs, signing, refusing, doing, leavingAll, linking, removing, inserting, turning, sweeping, formatting}
+use Rattle.wrong_stores.specs.Twin.{twinSchema, bottle, point, path1, path2, twinLink}
+use Rattle.wrong_stores.specs.Trials.{Trial, answers, lentTo, formattedBy, readerAfter, toldBy, Differs, signing, refusing, doing, leavingAll, linking, removing, inserting, turning, sweeping, formatting}
 use Rattle.wrong_stores.specs.TrialLaws.{Formats, Readable, computed}
 
 -- ---- condition 2
@@ -62,7 +60,7 @@ format-leaves-2 = not-2 formatting (computed .formats .0)
 
 pub refuses-all-3 : Condition3 refusesAll → ⊥
 unfolding refusesAll
-refuses-all-3 h = omega (arith, ap statusNumber (h .begins twin (zeros 1024) (computed .kept) (computed .sized)))
+refuses-all-3 h = omega (arith, ap statusNumber (h .begins twinSchema _ (computed .begins)))
 
 -- ---- condition 3: a reading that goes nowhere
 
@@ -74,21 +72,21 @@ endless ask same r (x ∷ xs) n h = endless ask same (x .number) xs (h .3) (h .4
 pub always-done-3 : Condition3 alwaysDone → ⊥
 unfolding alwaysDone answers
 always-done-3 h =
-    endless (readv alwaysDone twin [] path2 bottle) (λ r. refl) (twinLink path2)
-    (h .starts twin [] (inl refl) .0 (setNo (schemaOf twin) path2) (pathNo (schemaOf twin) path2) bottle)
+    endless (readv (readerOf alwaysDone twinSchema noneLent) path2 bottle) (λ r. refl) (twinLink path2)
+    (h .starts twinSchema noneLent (inl refl) .0 (setNo (schemaIn twinSchema) path2) (pathNo (schemaIn twinSchema) path2) bottle)
     (λ e. omega (arith, ap (λ (xs : List ℕ). getD xs 1 0) (computed .does .0)))
-    (h .starts twin [] (inl refl) .1 .read path2 bottle (computed .links .1 .place) refl)
+    (h .starts twinSchema noneLent (inl refl) .1 .read path2 bottle (computed .links .1 .place) refl)
 
 -- ---- condition 3: sign-on refuses
 
-by-format : (x : Trial) → Formats x → Formatted (x .store) twin (formattedBy (x .store) x)
-by-format x f = (x .base, f, refl)
+by-format : (x : Trial) → Formats x → Formatted (x .store) twinSchema (formattedBy (x .store) x)
+by-format x f = (lentTo x, f, refl)
 
 refused-3 : (store : Call → Outcome) (b : List ℕ) (calls : List Request) → Differs (signing store b calls) → Formats (signing store b calls) → Condition3 store → ⊥
 unfolding answers
 refused-3 store b calls t f h =
     let x : Trial = signing store b calls in
-    omega (arith, ap (λ (xs : List ℕ). getD xs 0 0) (t .0), ap statusNumber (h .accepted twin (formattedBy store x) calls (inr (by-format x f))))
+    omega (arith, ap (λ (xs : List ℕ). getD xs 0 0) (t .0), ap statusNumber (h .accepted twinSchema (formattedBy store x) calls (inr (by-format x f))))
 
 pub stores-nothing-3 : Condition3 storesNothing → ⊥
 stores-nothing-3 = refused-3 storesNothing _ _ (computed .leaves .0) (computed .leaves .1)
@@ -102,11 +100,11 @@ format-leaves-3 = refused-3 formatLeaves _ _ (computed .formats .0) (computed .f
 -- ---- condition 3: a reading that begins with another point
 
 -- what condition 3 says of the bottle on a path, after the trial's calls
-kept-at : (x : Trial) (w : Place) (xs : List Point) → Readable x w xs → Condition3 (x .store) → Kept (x .store) twin (leftBy (x .store) x) w bottle xs
+kept-at : (x : Trial) (w : Place) (xs : List Point) → Readable x w xs → Condition3 (x .store) → Kept (schemaIn twinSchema) (readerAfter (x .store) x) w bottle xs
 kept-at x w xs p h =
-    let b : List ℕ = formattedBy (x .store) x in
-    let f : Formatted (x .store) twin b = by-format x (p .formats) in
-    rw (← p .listed) (h .kept twin b (x .calls) (λ i j key. []) (inr f) (h .empty twin b f) w bottle (p .place))
+    let d : Lent = formattedBy (x .store) x in
+    let f : Formatted (x .store) twinSchema d = by-format x (p .formats) in
+    rw (← p .listed) (h .kept twinSchema d (x .calls) (λ i j key. []) (inr f) (h .empty twinSchema d f) w bottle (p .place))
 
 -- READV with LKxx gives the first point of the plain list
 pub links-first-3 : Condition3 linksFirst → ⊥
@@ -152,7 +150,7 @@ reads-forward-3 h =
 pub links-first-sweep-3 : Condition3 linksFirst → ⊥
 links-first-sweep-3 h =
     let w = computed .links .2 in
-    let k : Kept linksFirst twin (leftBy linksFirst linking) path2 bottle (point 1 ∷ []) = kept-at linking path2 _ (computed .links .1) h in
+    let k : Kept (schemaIn twinSchema) (readerAfter linksFirst linking) path2 bottle (point 1 ∷ []) = kept-at linking path2 _ (computed .links .1) h in
     (rw (w .keyed) at (k .same (computed .links .1 .exists) [] (point 1 ∷ []) (w .read) (w .swept))) .there (point 1) (inl refl)
 
 -- ---- condition 3: a sweep that finds nothing
@@ -167,7 +165,7 @@ finds e j key ask (z ∷ zs) x xs h s end = h .3 (sym (h .1) ∙ end)
 pub sweeps-nothing-3 : Condition3 sweepsNothing → ⊥
 unfolding answers
 sweeps-nothing-3 h =
-    let b : List ℕ = leftBy sweepsNothing sweeping in
-    let k : Kept sweepsNothing twin b path1 bottle (point 1 ∷ []) = kept-at sweeping path1 _ (computed .sweeps .1) h in
-    finds _ _ bottle (rdnxt sweepsNothing twin b path1) (k .sweep .0) (point 1) [] (k .sweep .1) (k .sweep .2)
+    let ask : Reader = readerAfter sweepsNothing sweeping in
+    let k : Kept (schemaIn twinSchema) ask path1 bottle (point 1 ∷ []) = kept-at sweeping path1 _ (computed .sweeps .1) h in
+    finds _ _ bottle (rdnxt ask path1) (k .sweep .0) (point 1) [] (k .sweep .1) (k .sweep .2)
     (ap (λ (ns : List ℕ). getD ns 1 0) (computed .sweeps .0 .0))

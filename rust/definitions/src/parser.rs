@@ -162,9 +162,17 @@ impl Parser<'_> {
         syntax
     }
 
-    /// What stands in parentheses, behind the opening one.
+    /// What stands in parentheses, behind the opening one. A pair is the
+    /// record of its fields 0 and 1.
     fn closed(&mut self) -> Result<Syntax, String> {
-        let inside = self.expression(0)?;
+        let first = self.expression(0)?;
+        let inside = if self.peek() == Some(&Token::Comma) {
+            self.at += 1;
+            let second = self.expression(0)?;
+            Syntax::Record(vec![("0".to_string(), first), ("1".to_string(), second)])
+        } else {
+            first
+        };
         self.expect(Token::Close)?;
         Ok(inside)
     }
@@ -267,6 +275,14 @@ mod tests {
             "(_||_ (_&&_ (not a) b) (_&&_ c d))"
         );
         assert_eq!(right_side("a + b ∷ c"), "(_+_ a (_∷_ b c))");
+    }
+
+    #[test]
+    fn a_pair_is_a_record_of_its_two_sides() {
+        assert_eq!(
+            right_side("f ((a ∷ [], g x .b) ∷ rows) (row .1)"),
+            "(f (_∷_ {0 = (_∷_ a []); 1 = ((g x)).b} rows) (row).1)"
+        );
     }
 
     #[test]

@@ -204,4 +204,18 @@ mod tests {
         assert_eq!(source.definitions["f"].clauses.len(), 1);
         assert_eq!(source.definitions["g"].clauses.len(), 2);
     }
+
+    #[test]
+    fn what_only_the_prover_needs_is_passed_over() {
+        let text = "pub record Rule : Type 0 where\n  pub asked : ℕ → Bool\n\
+                    abbrev pub chosen : {A : Type 0} → ℕ → List (ℕ × A) → A → A\n\
+                    chosen n [] other = other\n\
+                    unfoldable pub opened : Unit {0}\nunfolding chosen\n    outcome\nopened = tt\n";
+        let source = Source::read(text).unwrap();
+        let mut names: Vec<&String> = source.definitions.keys().collect();
+        names.sort();
+        assert_eq!(names, ["chosen", "opened"]);
+        assert_eq!(source.definitions["chosen"].clauses.len(), 1);
+        assert_eq!(source.definitions["opened"].clauses.len(), 1);
+    }
 }

@@ -66,7 +66,7 @@ fn one_linkage_field_for_two_paths_to_a_master_is_noticed() {
 #[test]
 fn a_set_called_full_with_a_place_free_is_noticed() {
     is_noticed(
-        "masters/Find",
+        "scan/Scan",
         "isFull b e = ltb (e .records) (lowestFree b e)",
         "isFull b e = isLive b e (e .records)",
     );

@@ -5,17 +5,8 @@ use Rattle.records.specs.AreaLaws.{keys-inside}
 use Rattle.areas.proofs.area_length.Statement.{statement}
 use Rattle.areas.proofs.area_length.Tie as tie
 
-area-keys-requires : tie.Need-area-keys-requires
-area-keys-requires c κs = search needs
-
-cast-result : tie.Need-cast-result
-cast-result c = search needs
-
 add-result : tie.Need-add-result
 add-result c = let s = c .before .before in omega (arith, keys-inside (s .args .e) (s .pre))
 
-returns : tie.Need-returns
-returns c = search needs
-
 pub area-length-spec : {M : Type 1} → statement M
-area-length-spec = tie.close (tie.spec area-keys-requires cast-result add-result returns)
+area-length-spec = tie.close (tie.spec (λ c κs. search needs) (λ c. search needs) add-result (λ c. search needs))

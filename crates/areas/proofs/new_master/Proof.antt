@@ -20,38 +20,8 @@ is-master s = eq-eqb _ _ (s .pre .1 .1 .1)
 area-long : (s : tie.Start) → length (now (s .args .area)) ≡ s .args .e .key + s .args .e .room
 area-long s = omega (arith, s .pre .1 .0, master-keys (s .args .e) (is-master s))
 
-cast-len : tie.Need-cast-len
-cast-len c = search needs
-
-cast-body : tie.Need-cast-body
-cast-body c = search needs
-
-put-word-requires : tie.Need-put-word-requires
-put-word-requires c κs = search needs
-
-put-word-requires-2 : tie.Need-put-word-requires-2
-put-word-requires-2 c κs = search needs
-
-put-word-requires-3 : tie.Need-put-word-requires-3
-put-word-requires-3 c κs = search needs
-
 copy-part-requires : tie.Need-copy-part-requires
 copy-part-requires c κs = (search needs, omega (arith, area-long (c .before .before .before .before .before .before .before .before .before .before .before .before .before .before .before .before .before)))
-
-add-zero : tie.Need-add-zero
-add-zero c = search needs
-
-add-zero-2 : tie.Need-add-zero-2
-add-zero-2 c = search needs
-
-sub-zero : tie.Need-sub-zero
-sub-zero c = search needs
-
-zero-requires : tie.Need-zero-requires
-zero-requires c κs = search needs
-
-cast-copy-part : tie.Need-cast-copy-part
-cast-copy-part c = search needs
 
 copy-part-requires-2 : tie.Need-copy-part-requires-2
 copy-part-requires-2 c κs =
@@ -62,9 +32,6 @@ copy-part-requires-2 c κs =
     let h = n .before .before .before .before in
     let s = h .before .before .before .before .before .before in
     (omega (arith, z .zero .kept, k .copy-part .kept, p .put-word3 .kept, n .put-word2 .kept, h .put-word .kept, s .pre .0), omega (arith, area-long s))
-
-same-length : tie.Need-same-length
-same-length c = search needs
 
 returns : tie.Need-returns
 returns c =
@@ -83,17 +50,17 @@ pub new-master-spec : {M : Type 1} → statement M
 new-master-spec =
     tie.close
     (tie.spec
-    cast-len
-    cast-body
-    put-word-requires
-    put-word-requires-2
-    put-word-requires-3
+    (λ c. search needs)
+    (λ c. search needs)
+    (λ c κs. search needs)
+    (λ c κs. search needs)
+    (λ c κs. search needs)
     copy-part-requires
-    add-zero
-    add-zero-2
-    sub-zero
-    zero-requires
-    cast-copy-part
+    (λ c. search needs)
+    (λ c. search needs)
+    (λ c. search needs)
+    (λ c κs. search needs)
+    (λ c. search needs)
     copy-part-requires-2
-    same-length
+    (λ c. search needs)
     returns)

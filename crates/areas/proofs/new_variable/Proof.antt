@@ -10,24 +10,6 @@ use Rattle.areas.proofs.new_variable.Tie as tie
 put-word-requires : tie.Need-put-word-requires
 put-word-requires c κs = let s = c .before .before .before in omega (arith, head-inside (s .args .e) (s .pre .1 .1 .0) (s .pre .1 .1 .1))
 
-put-paths-requires : tie.Need-put-paths-requires
-put-paths-requires c κs = search needs
-
-area-keys-requires : tie.Need-area-keys-requires
-area-keys-requires c κs = search needs
-
-cast-copy-part : tie.Need-cast-copy-part
-cast-copy-part c = search needs
-
-cast-copy-part-2 : tie.Need-cast-copy-part-2
-cast-copy-part-2 c = search needs
-
-copy-part-requires : tie.Need-copy-part-requires
-copy-part-requires c κs = search needs
-
-same-length : tie.Need-same-length
-same-length c = search needs
-
 returns : tie.Need-returns
 returns c =
     let d = c .before .before in
@@ -44,10 +26,10 @@ new-variable-spec =
     tie.close
     (tie.spec
     put-word-requires
-    put-paths-requires
-    area-keys-requires
-    cast-copy-part
-    cast-copy-part-2
-    copy-part-requires
-    same-length
+    (λ c κs. search needs)
+    (λ c κs. search needs)
+    (λ c. search needs)
+    (λ c. search needs)
+    (λ c κs. search needs)
+    (λ c. search needs)
     returns)

@@ -17,32 +17,11 @@ use Rattle.areas.proofs.put_body.Tie as tie
 within : (s : tie.Start) → placeOf (s .args .e) (s .args .r .0) + s .args .e .size ≤ length (now (s .args .base))
 within s = place-inside (s .args .r .0) (s .pre .1 .0) (s .pre .0)
 
-area-keys-requires : tie.Need-area-keys-requires
-area-keys-requires c κs = search needs
-
-place-of-requires : tie.Need-place-of-requires
-place-of-requires c κs = search needs
-
-cast-end : tie.Need-cast-end
-cast-end c = search needs
-
 add-end : tie.Need-add-end
 add-end c = omega (arith, within (c .before .before .before .before .before), c .before .place-of .ensures)
 
-sub-part : tie.Need-sub-part
-sub-part c = search needs
-
-part-part-start : tie.Need-part-part-start
-part-part-start c = search needs
-
 part-part-end : tie.Need-part-part-end
 part-part-end c = omega (arith, within (c .before .before .before .before .before), c .before .place-of .ensures)
-
-cast-copy-part : tie.Need-cast-copy-part
-cast-copy-part c = search needs
-
-cast-copy-part-2 : tie.Need-cast-copy-part-2
-cast-copy-part-2 c = search needs
 
 copy-part-requires : tie.Need-copy-part-requires
 copy-part-requires c κs =
@@ -51,9 +30,6 @@ copy-part-requires c κs =
     let a = s .args in
     let l : length (run (now (a .base)) (p .place-of .result) (a .e .size)) ≡ a .e .size = length-run (now (a .base)) (p .place-of .result) (a .e .size) (omega (arith, within s, p .place-of .ensures)) in
     (rw (add-sub-cancel-left (p .place-of .result) (a .e .size), l) (omega (arith, s .pre .1 .0 .sized)), omega (arith, p .before .area-keys .ensures, s .pre .1 .1 .1))
-
-same-length : tie.Need-same-length
-same-length c = search needs
 
 returns : tie.Need-returns
 returns c =
@@ -69,15 +45,15 @@ pub put-body-spec : {M : Type 1} → statement M
 put-body-spec =
     tie.close
     (tie.spec
-    area-keys-requires
-    place-of-requires
-    cast-end
+    (λ c κs. search needs)
+    (λ c κs. search needs)
+    (λ c. search needs)
     add-end
-    sub-part
-    part-part-start
+    (λ c. search needs)
+    (λ c. search needs)
     part-part-end
-    cast-copy-part
-    cast-copy-part-2
+    (λ c. search needs)
+    (λ c. search needs)
     copy-part-requires
-    same-length
+    (λ c. search needs)
     returns)

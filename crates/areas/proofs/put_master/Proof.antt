@@ -23,20 +23,8 @@ within s = place-inside (s .args .r .0) (s .pre .1 .0) (s .pre .0)
 is-master : (s : tie.Start) → isMaster (s .args .e) ≡ true
 is-master s = eq-eqb _ _ (s .pre .1 .1 .1 .1)
 
-place-of-requires : tie.Need-place-of-requires
-place-of-requires c κs = search needs
-
-cast-end : tie.Need-cast-end
-cast-end c = search needs
-
 add-end : tie.Need-add-end
 add-end c = omega (arith, within (c .before .before .before .before), c .before .place-of .ensures)
-
-sub-new-master : tie.Need-sub-new-master
-sub-new-master c = search needs
-
-part-new-master-start : tie.Need-part-new-master-start
-part-new-master-start c = search needs
 
 part-new-master-end : tie.Need-part-new-master-end
 part-new-master-end c = omega (arith, within (c .before .before .before .before), c .before .place-of .ensures)
@@ -49,9 +37,6 @@ new-master-requires c κs =
       rw (add-sub-cancel-left (p .place-of .result) (a .e .size)) (length-run (now (a .base)) (p .place-of .result) (a .e .size) (omega (arith, within s, p .place-of .ensures)) ∙ s .pre .1 .0 .sized),
       (s .pre .1 .1 .1 .0, (s .pre .1 .1 .0 .key (is-master s), s .pre .1 .1 .1 .1)),
     )
-
-same-length : tie.Need-same-length
-same-length c = search needs
 
 returns : tie.Need-returns
 returns c =
@@ -69,12 +54,12 @@ pub put-master-spec : {M : Type 1} → statement M
 put-master-spec =
     tie.close
     (tie.spec
-    place-of-requires
-    cast-end
+    (λ c κs. search needs)
+    (λ c. search needs)
     add-end
-    sub-new-master
-    part-new-master-start
+    (λ c. search needs)
+    (λ c. search needs)
     part-new-master-end
     new-master-requires
-    same-length
+    (λ c. search needs)
     returns)

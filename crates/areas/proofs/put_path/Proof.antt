@@ -7,33 +7,6 @@ use Rattle.records.specs.NewLaws.{path-made}
 use Rattle.areas.proofs.put_path.Statement.{statement}
 use Rattle.areas.proofs.put_path.Tie as tie
 
-cast-at : tie.Need-cast-at
-cast-at c = search needs
-
-cast-len : tie.Need-cast-len
-cast-len c = search needs
-
-copy-part-requires : tie.Need-copy-part-requires
-copy-part-requires c κs = search needs
-
-add-put-word : tie.Need-add-put-word
-add-put-word c = search needs
-
-put-word-requires : tie.Need-put-word-requires
-put-word-requires c κs = search needs
-
-add-put-word-2 : tie.Need-add-put-word-2
-add-put-word-2 c = search needs
-
-add-put-word-3 : tie.Need-add-put-word-3
-add-put-word-3 c = search needs
-
-put-word-requires-2 : tie.Need-put-word-requires-2
-put-word-requires-2 c κs = search needs
-
-same-length : tie.Need-same-length
-same-length c = search needs
-
 returns : tie.Need-returns
 returns c =
     let n = c .before .before in
@@ -48,13 +21,13 @@ pub put-path-spec : {M : Type 1} → statement M
 put-path-spec =
     tie.close
     (tie.spec
-    cast-at
-    cast-len
-    copy-part-requires
-    add-put-word
-    put-word-requires
-    add-put-word-2
-    add-put-word-3
-    put-word-requires-2
-    same-length
+    (λ c. search needs)
+    (λ c. search needs)
+    (λ c κs. search needs)
+    (λ c. search needs)
+    (λ c κs. search needs)
+    (λ c. search needs)
+    (λ c. search needs)
+    (λ c κs. search needs)
+    (λ c. search needs)
     returns)

@@ -37,9 +37,6 @@ len-is c = ap (λ (p : Path). p .len) (c .path-of .ensures)
 at-is : (c : tie.After-path-of Inv-loop μ-loop) → c .path-of .result .at ≡ pathOf (c .before .before .before .before .before .before .args .e) (c .before .before .loop .j) .at
 at-is c = ap (λ (p : Path). p .at) (c .path-of .ensures)
 
-cast-count : tie.Need-cast-count Inv-loop μ-loop
-cast-count c = search needs
-
 loop-holds : tie.Need-loop-holds Inv-loop μ-loop
 loop-holds c =
     let e = c .before .before .before .args .e in
@@ -64,20 +61,11 @@ put-path-requires c κs =
       omega (arith, len-is p, area-long s, area-key-inside (s .args .e) (l .loop .j) (s .args .e .count) (p .before .loop-test .taken), l .loop .inv),
     )
 
-cast-from : tie.Need-cast-from Inv-loop μ-loop
-cast-from c = search needs
-
 add-from : tie.Need-add-from Inv-loop μ-loop
 add-from c =
     let p = c .before .before .before .before .before .before in
     let s = p .before .before .before .before .before .before in
     omega (arith, len-is p, area-long s, area-key-inside (s .args .e) (p .before .before .loop .j) (s .args .e .count) (p .before .loop-test .taken), p .before .before .loop .inv)
-
-add-j : tie.Need-add-j Inv-loop μ-loop
-add-j c = search needs
-
-loop-less : tie.Need-loop-less Inv-loop μ-loop
-loop-less c = search needs
 
 loop-again : tie.Need-loop-again Inv-loop μ-loop
 loop-again c =
@@ -112,16 +100,16 @@ put-paths-spec =
     (tie.spec
     Inv-loop
     μ-loop
-    cast-count
+    (λ c. search needs)
     loop-holds
     path-of-requires
     mul-put-path
     array-copy-out-put-path
     put-path-requires
-    cast-from
+    (λ c. search needs)
     add-from
-    add-j
-    loop-less
+    (λ c. search needs)
+    (λ c. search needs)
     loop-again
     same-length
     returns)

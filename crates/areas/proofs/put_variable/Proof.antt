@@ -23,20 +23,8 @@ within s = place-inside (s .args .r .0) (s .pre .1 .0) (s .pre .0)
 is-variable : (s : tie.Start) → isMaster (s .args .e) ≡ false
 is-variable s = ne-eqb (s .args .e .kind) 1 (λ k. omega (arith, s .pre .1 .1 .1 .1))
 
-place-of-requires : tie.Need-place-of-requires
-place-of-requires c κs = search needs
-
-cast-end : tie.Need-cast-end
-cast-end c = search needs
-
 add-end : tie.Need-add-end
 add-end c = omega (arith, within (c .before .before .before .before), c .before .place-of .ensures)
-
-sub-new-variable : tie.Need-sub-new-variable
-sub-new-variable c = search needs
-
-part-new-variable-start : tie.Need-part-new-variable-start
-part-new-variable-start c = search needs
 
 part-new-variable-end : tie.Need-part-new-variable-end
 part-new-variable-end c = omega (arith, within (c .before .before .before .before), c .before .place-of .ensures)
@@ -49,9 +37,6 @@ new-variable-requires c κs =
       rw (add-sub-cancel-left (p .place-of .result) (a .e .size)) (length-run (now (a .base)) (p .place-of .result) (a .e .size) (omega (arith, within s, p .place-of .ensures)) ∙ s .pre .1 .0 .sized),
       (s .pre .1 .1 .1 .0, (s .pre .1 .1 .0, is-variable s)),
     )
-
-same-length : tie.Need-same-length
-same-length c = search needs
 
 returns : tie.Need-returns
 returns c =
@@ -69,12 +54,12 @@ pub put-variable-spec : {M : Type 1} → statement M
 put-variable-spec =
     tie.close
     (tie.spec
-    place-of-requires
-    cast-end
+    (λ c κs. search needs)
+    (λ c. search needs)
     add-end
-    sub-new-variable
-    part-new-variable-start
+    (λ c. search needs)
+    (λ c. search needs)
     part-new-variable-end
     new-variable-requires
-    same-length
+    (λ c. search needs)
     returns)

@@ -34,23 +34,11 @@ part c = let s = c .before .before .before in c .record-of .ensures ∙ part-is 
 long : (c : tie.After-record-of) → length (now (c .record-of .result)) ≡ c .before .before .before .args .e .body + c .before .before .before .args .e .room
 long c = let s = c .before .before .before in ap length (part c) ∙ length-run (now (s .args .base)) (placeOf (s .args .e) (s .args .r .0)) (s .args .e .body + s .args .e .room) (within s)
 
-record-of-requires : tie.Need-record-of-requires
-record-of-requires c κs = search needs
-
-cast-len : tie.Need-cast-len
-cast-len c = search needs
-
 copy-part-requires : tie.Need-copy-part-requires
 copy-part-requires c κs =
     let p = c .before .before in
     let s = p .before .before .before in
     (omega (arith, area-long s), omega (arith, long p, s .pre .1 .1 .0 .key (is-master s)))
-
-cast-copy-part : tie.Need-cast-copy-part
-cast-copy-part c = search needs
-
-cast-copy-part-2 : tie.Need-cast-copy-part-2
-cast-copy-part-2 c = search needs
 
 copy-part-requires-2 : tie.Need-copy-part-requires-2
 copy-part-requires-2 c κs =
@@ -58,9 +46,6 @@ copy-part-requires-2 c κs =
     let p = k .before .before .before in
     let s = p .before .before .before in
     (omega (arith, area-long s, k .copy-part .kept), omega (arith, long p))
-
-same-length : tie.Need-same-length
-same-length c = search needs
 
 returns : tie.Need-returns
 returns c =
@@ -75,11 +60,11 @@ pub read-master-spec : {M : Type 1} → statement M
 read-master-spec =
     tie.close
     (tie.spec
-    record-of-requires
-    cast-len
+    (λ c κs. search needs)
+    (λ c. search needs)
     copy-part-requires
-    cast-copy-part
-    cast-copy-part-2
+    (λ c. search needs)
+    (λ c. search needs)
     copy-part-requires-2
-    same-length
+    (λ c. search needs)
     returns)

@@ -62,43 +62,22 @@ len-is c = ap (λ (p : Path). p .len) (c .path-of .ensures)
 at-is : (c : tie.After-path-of Inv-loop μ-loop) → c .path-of .result .at ≡ pathOf (c .before .before .before .before .before .before .before .args .e) (c .before .before .loop .j) .at
 at-is c = ap (λ (p : Path). p .at) (c .path-of .ensures)
 
-record-of-requires : tie.Need-record-of-requires Inv-loop μ-loop
-record-of-requires c κs = search needs
-
-cast-count : tie.Need-cast-count Inv-loop μ-loop
-cast-count c = search needs
-
 loop-holds : tie.Need-loop-holds Inv-loop μ-loop
 loop-holds c = (omega arith, sym (area-key-first (c .before .before .before .before .args .e)), refl, refl)
 
 path-of-requires : tie.Need-path-of-requires Inv-loop μ-loop
 path-of-requires c κs = omega (arith, c .before .before .before .before .before .before .pre .1 .1 .0 .few)
 
-cast-copy-part : tie.Need-cast-copy-part Inv-loop μ-loop
-cast-copy-part c = search needs
-
-cast-copy-part-2 : tie.Need-cast-copy-part-2 Inv-loop μ-loop
-cast-copy-part-2 c = search needs
-
 copy-part-requires : tie.Need-copy-part-requires Inv-loop μ-loop
 copy-part-requires c κs =
     let p = c .before .before .before in
     (omega (arith, area-fits (p .before), len-is p), omega (arith, part-fits (p .before), len-is p, at-is p))
-
-cast-at : tie.Need-cast-at Inv-loop μ-loop
-cast-at c = search needs
 
 add-at : tie.Need-add-at Inv-loop μ-loop
 add-at c =
     let p = c .before .before .before .before .before .before .before in
     let s = p .before .before .before .before .before .before .before in
     omega (arith, area-fits (p .before), len-is p, p .before .before .loop .inv, s .pre .1 .1 .1 .0, keys-inside (s .args .e) (s .pre .1 .1 .0), within s, s .pre .1 .0 .small)
-
-add-j : tie.Need-add-j Inv-loop μ-loop
-add-j c = search needs
-
-loop-less : tie.Need-loop-less Inv-loop μ-loop
-loop-less c = search needs
 
 loop-again : tie.Need-loop-again Inv-loop μ-loop
 loop-again c =
@@ -114,12 +93,6 @@ loop-again c =
       rw (k .copy-part .ensures, p .path-of .ensures)
           (keys-turn e (s .pre .1 .1 .0) (now (l .before .before .record-of .result)) (l .loop .area) (run (now (l .before .before .record-of .result)) (e .body) (e .room)) (l .loop .at) (l .loop .j) (p .before .loop-test .taken) (part-fits (p .before)) ∙ h .3),
     )
-
-cast-copy-part-3 : tie.Need-cast-copy-part-3 Inv-loop μ-loop
-cast-copy-part-3 c = search needs
-
-cast-copy-part-4 : tie.Need-cast-copy-part-4 Inv-loop μ-loop
-cast-copy-part-4 c = search needs
 
 copy-part-requires-2 : tie.Need-copy-part-requires-2 Inv-loop μ-loop
 copy-part-requires-2 c κs =
@@ -149,20 +122,20 @@ read-variable-spec =
     (tie.spec
     Inv-loop
     μ-loop
-    record-of-requires
-    cast-count
+    (λ c κs. search needs)
+    (λ c. search needs)
     loop-holds
     path-of-requires
-    cast-copy-part
-    cast-copy-part-2
+    (λ c. search needs)
+    (λ c. search needs)
     copy-part-requires
-    cast-at
+    (λ c. search needs)
     add-at
-    add-j
-    loop-less
+    (λ c. search needs)
+    (λ c. search needs)
     loop-again
-    cast-copy-part-3
-    cast-copy-part-4
+    (λ c. search needs)
+    (λ c. search needs)
     copy-part-requires-2
     same-length
     returns)

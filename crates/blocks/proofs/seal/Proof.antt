@@ -7,24 +7,15 @@ use borrow.Author.Needs.{needs}
 use Rattle.blocks.proofs.seal.Statement.{statement}
 use Rattle.blocks.proofs.seal.Tie as tie
 
-block-requires : tie.Need-block-requires
-block-requires c κs = search needs
-
-check-requires : tie.Need-check-requires
-check-requires c κs = ap length (c .block .ensures) ∙ length-run _ _ 512 (c .before .before .before .pre)
-
-put-check-requires : tie.Need-put-check-requires
-put-check-requires c κs = search needs
-
-same-length : tie.Need-same-length
-same-length c = search needs
+check-of-requires : tie.Need-check-of-requires
+check-of-requires c κs = ap length (c .block .ensures) ∙ length-run _ _ 512 (c .before .before .before .pre)
 
 returns : tie.Need-returns
 unfolding seal
 returns c =
     let p = c .before .before in
-    rw (p .put-check .ensures, p .before .before .check .ensures, p .before .before .before .block .ensures) refl
+    rw (p .put-check .ensures, p .before .before .check-of .ensures, p .before .before .before .block .ensures) refl
 
 pub seal-spec : {M : Type 1} → statement M
 seal-spec =
-    tie.close (tie.spec block-requires check-requires put-check-requires same-length returns)
+    tie.close (tie.spec (λ c κs. search needs) check-of-requires (λ c κs. search needs) (λ c. search needs) returns)

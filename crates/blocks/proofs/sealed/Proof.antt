@@ -12,17 +12,14 @@ use Rattle.blocks.proofs.sealed.Tie as tie
 long : (c : tie.After-block) → length (now (c .block .result)) ≡ 512
 long c = ap length (c .block .ensures) ∙ length-run _ _ 512 (c .before .before .pre)
 
-block-requires : tie.Need-block-requires
-block-requires c κs = search needs
-
 word-requires : tie.Need-word-requires
 word-requires c κs = omega (arith, long c)
 
-check-requires : tie.Need-check-requires
-check-requires c κs = long (c .before)
+check-of-requires : tie.Need-check-of-requires
+check-of-requires c κs = long (c .before)
 
 returns : tie.Need-returns
-returns c = rw (c .before .word .ensures, c .check .ensures, c .before .before .block .ensures) (isSealed-run _ _)
+returns c = rw (c .before .word .ensures, c .check-of .ensures, c .before .before .block .ensures) (isSealed-run _ _ _)
 
 pub sealed-spec : {M : Type 1} → statement M
-sealed-spec = tie.close (tie.spec block-requires word-requires check-requires returns)
+sealed-spec = tie.close (tie.spec (λ c κs. search needs) word-requires check-of-requires returns)

@@ -4,12 +4,9 @@ use borrow.Author.Needs.{needs}
 use Rattle.clean.proofs.checks_true.Statement.{statement}
 use Rattle.clean.proofs.checks_true.Tie as tie
 
-sealed-below-requires : tie.Need-sealed-below-requires
-sealed-below-requires c κs = search needs
-
 returns : tie.Need-returns
 unfolding checksTrue
-returns c = c .sealed-below .ensures
+returns c = rw (c .before .of .ensures) at (c .sealed-below .ensures)
 
 pub checks-true-spec : {M : Type 1} → statement M
-checks-true-spec = tie.close (tie.spec sealed-below-requires returns)
+checks-true-spec = tie.close (tie.spec (λ c κs. search needs) (λ c κs. search needs) returns)

@@ -4,15 +4,9 @@ use borrow.Author.Needs.{needs}
 use Rattle.clean.proofs.leftover_clean.Statement.{statement}
 use Rattle.clean.proofs.leftover_clean.Tie as tie
 
-leftover-of-requires : tie.Need-leftover-of-requires
-leftover-of-requires c κs = search needs
-
-all-requires : tie.Need-all-requires
-all-requires c κs = search needs
-
 returns : tie.Need-returns
 unfolding leftoverClean
 returns c = rw (c .before .leftover-of .ensures) at (c .all .ensures)
 
 pub leftover-clean-spec : {M : Type 1} → statement M
-leftover-clean-spec = tie.close (tie.spec leftover-of-requires all-requires returns)
+leftover-clean-spec = tie.close (tie.spec (λ c κs. search needs) (λ c κs. search needs) returns)

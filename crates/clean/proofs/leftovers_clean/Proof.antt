@@ -22,9 +22,6 @@ abbrev μ-loop : tie.MeasureT-loop
 is-block : (c : tie.In-loop Inv-loop μ-loop) → c .before .loop .k < blocksHeld (c .before .before .before .before .args .e)
 is-block c = omega (arith, c .loop-test .taken, c .before .before .blocks-held .ensures .0)
 
-blocks-held-requires : tie.Need-blocks-held-requires Inv-loop μ-loop
-blocks-held-requires c κs = search needs
-
 loop-holds : tie.Need-loop-holds Inv-loop μ-loop
 unfolding allBelow
 loop-holds c = search needs
@@ -37,12 +34,6 @@ returns c =
     let l = c .before .before .before in
     let a = l .before .before .before .args in
     fails (leftoverClean (now (a .base)) (a .e)) (blocksHeld (a .e)) (l .loop .k) (is-block (c .before .before)) (c .before .leftover-clean .ensures) (c .if1 .taken)
-
-add-k : tie.Need-add-k Inv-loop μ-loop
-add-k c = search needs
-
-loop-less : tie.Need-loop-less Inv-loop μ-loop
-loop-less c = search needs
 
 loop-again : tie.Need-loop-again Inv-loop μ-loop
 loop-again c =
@@ -63,11 +54,11 @@ leftovers-clean-spec =
     (tie.spec
     Inv-loop
     μ-loop
-    blocks-held-requires
+    (λ c κs. search needs)
     loop-holds
     leftover-clean-requires
     returns
-    add-k
-    loop-less
+    (λ c. search needs)
+    (λ c. search needs)
     loop-again
     returns-2)

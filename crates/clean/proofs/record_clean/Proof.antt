@@ -14,32 +14,17 @@ long c =
     let s = c .before .before in
     ap length (c .record-of .ensures) ∙ record-length (now (s .args .base)) (s .args .e) (s .args .r .0) (s .pre .1 .0) (s .pre .0)
 
-record-of-requires : tie.Need-record-of-requires
-record-of-requires c κs = search needs
-
 shared-slice-read-if1 : tie.Need-shared-slice-read-if1
 shared-slice-read-if1 c = omega (arith, long (c .before), c .before .before .before .pre .1 .1)
 
-sub-all : tie.Need-sub-all
-sub-all c = search needs
-
-part-all-start : tie.Need-part-all-start
-part-all-start c = search needs
-
 part-all-end : tie.Need-part-all-end
 part-all-end c = omega (arith, long (c .before .before), c .before .before .before .before .pre .1 .1)
-
-all-requires : tie.Need-all-requires
-all-requires c κs = search needs
 
 returns : tie.Need-returns
 returns c =
     let p = c .before .before .before .before in
     let s = p .before .before in
     clean-live (now (s .args .base)) (s .args .e) (s .args .r .0) (p .record-of .ensures) (s .pre .1 .1) (c .before .before .if1 .taken) (c .all .ensures)
-
-all-requires-2 : tie.Need-all-requires-2
-all-requires-2 c κs = search needs
 
 returns-2 : tie.Need-returns-2
 returns-2 c =
@@ -51,12 +36,12 @@ pub record-clean-spec : {M : Type 1} → statement M
 record-clean-spec =
     tie.close
     (tie.spec
-    record-of-requires
+    (λ c κs. search needs)
     shared-slice-read-if1
-    sub-all
-    part-all-start
+    (λ c. search needs)
+    (λ c. search needs)
     part-all-end
-    all-requires
+    (λ c κs. search needs)
     returns
-    all-requires-2
+    (λ c κs. search needs)
     returns-2)

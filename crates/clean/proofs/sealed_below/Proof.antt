@@ -11,40 +11,31 @@ use Rattle.clean.proofs.sealed_below.Statement.{statement}
 use Rattle.clean.proofs.sealed_below.Tie as tie
 
 abbrev Inv-loop : tie.InvT-loop
-Inv-loop base n i₀ i = (i ≤ n) × (allBelow (isSealed base) i ≡ true)
+Inv-loop base n k i₀ i = (i ≤ n) × (allBelow (isSealed k base) i ≡ true)
 
 abbrev μ-loop : tie.MeasureT-loop
-μ-loop base n i₀ i = n - i
+μ-loop base n k i₀ i = n - i
 
 loop-holds : tie.Need-loop-holds Inv-loop μ-loop
 unfolding allBelow
 loop-holds c = search needs
 
-sealed-requires : tie.Need-sealed-requires Inv-loop μ-loop
-sealed-requires c κs = search needs
-
 returns : tie.Need-returns Inv-loop μ-loop
 returns c =
     let l = c .before .before .before in
     let a = l .before .before .args in
-    fails (isSealed (now (a .base))) (a .n) (l .loop .i) (c .before .before .loop-test .taken) (c .before .sealed .ensures) (c .if1 .taken)
-
-add-i : tie.Need-add-i Inv-loop μ-loop
-add-i c = search needs
-
-loop-less : tie.Need-loop-less Inv-loop μ-loop
-loop-less c = search needs
+    fails (isSealed (a .k) (now (a .base))) (a .n) (l .loop .i) (c .before .before .loop-test .taken) (c .before .sealed .ensures) (c .if1 .taken)
 
 loop-again : tie.Need-loop-again Inv-loop μ-loop
 loop-again c =
     let l = c .before .before .before in
-    (search needs, passes (isSealed (now (l .before .before .args .base))) (l .loop .i) (c .before .sealed .ensures) (c .if1 .left) (l .loop .inv .1))
+    (search needs, passes (isSealed (l .before .before .args .k) (now (l .before .before .args .base))) (l .loop .i) (c .before .sealed .ensures) (c .if1 .left) (l .loop .inv .1))
 
 returns-2 : tie.Need-returns-2 Inv-loop μ-loop
 returns-2 c =
     let l = c .before in
     let a = l .before .before .args in
-    ends (isSealed (now (a .base))) (a .n) (l .loop .i) (l .loop .inv .0) (c .loop-test .left) (l .loop .inv .1)
+    ends (isSealed (a .k) (now (a .base))) (a .n) (l .loop .i) (l .loop .inv .0) (c .loop-test .left) (l .loop .inv .1)
 
 pub sealed-below-spec : {M : Type 1} → statement M
 sealed-below-spec =
@@ -53,9 +44,9 @@ sealed-below-spec =
     Inv-loop
     μ-loop
     loop-holds
-    sealed-requires
+    (λ c κs. search needs)
     returns
-    add-i
-    loop-less
+    (λ c. search needs)
+    (λ c. search needs)
     loop-again
     returns-2)

@@ -6,17 +6,11 @@ use borrow.Author.Needs.{needs}
 use Rattle.clean.proofs.set_clean.Statement.{statement}
 use Rattle.clean.proofs.set_clean.Tie as tie
 
-records-clean-requires : tie.Need-records-clean-requires
-records-clean-requires c κs = search needs
-
 returns : tie.Need-returns
 unfolding setClean
 returns c =
     let a = c .before .before .before .args in
     stops (eachRecord (a .e) (recordClean (now (a .base)) (a .e))) _ (c .before .records-clean .ensures) (c .if1 .taken)
-
-leftovers-clean-requires : tie.Need-leftovers-clean-requires
-leftovers-clean-requires c κs = search needs
 
 returns-2 : tie.Need-returns-2
 unfolding setClean
@@ -26,4 +20,4 @@ returns-2 c =
 
 pub set-clean-spec : {M : Type 1} → statement M
 set-clean-spec =
-    tie.close (tie.spec records-clean-requires returns leftovers-clean-requires returns-2)
+    tie.close (tie.spec (λ c κs. search needs) returns (λ c κs. search needs) returns-2)

@@ -17,22 +17,13 @@ use Rattle.commit.proofs.all_sealed.Lts as lts
 use Rattle.blocks.proofs.sealed.Reads as sealed-reads
 
 abbrev Inv-loop : tie.InvT-loop
-Inv-loop base blocks count j₀ j = (j ≤ count) × (allSealed base (drop j (numbersOf blocks)) ≡ allSealed base (numbersOf blocks))
+Inv-loop base kind blocks count j₀ j = (j ≤ count) × (allSealed kind base (drop j (numbersOf blocks)) ≡ allSealed kind base (numbersOf blocks))
 
 abbrev μ-loop : tie.MeasureT-loop
-μ-loop base blocks count j₀ j = count - j
+μ-loop base kind blocks count j₀ j = count - j
 
 whole : (s : tie.Start Inv-loop μ-loop) → length (s .args .t2 .numbers) ≡ 12
 whole s = sym (length-map (s .args .t2 .numbers) _) ∙ s .good .1 .0 .1 .1 .0 .1 .0 .1
-
-loop-holds : tie.Need-loop-holds Inv-loop μ-loop
-loop-holds c = search needs
-
-mul-n : tie.Need-mul-n Inv-loop μ-loop
-mul-n c = search needs
-
-element-copy-out-n : tie.Need-element-copy-out-n Inv-loop μ-loop
-element-copy-out-n c = search needs
 
 sealed-requires : tie.Need-sealed-requires Inv-loop μ-loop
 sealed-requires c κs =
@@ -46,15 +37,9 @@ returns c =
     let l = k .before .before .before in
     let s = l .before .before in
     let a = s .args in
-    let f : allSealed (now (a .base)) (drop (l .loop .j) (numbersOf (a .t2))) ≡ false =
-    blocks-fail (a .t2) (whole s) (omega arith) (isSealed (now (a .base))) (l .loop .j) (omega arith) (sym (k .sealed .ensures) ∙ not-true (k .sealed .result) (c .if1 .taken)) in
+    let f : allSealed (a .kind) (now (a .base)) (drop (l .loop .j) (numbersOf (a .t2))) ≡ false =
+    blocks-fail (a .t2) (whole s) (omega arith) (isSealed (a .kind) (now (a .base))) (l .loop .j) (omega arith) (sym (k .sealed .ensures) ∙ not-true (k .sealed .result) (c .if1 .taken)) in
     sym f ∙ l .loop .inv .1
-
-add-j : tie.Need-add-j Inv-loop μ-loop
-add-j c = search needs
-
-loop-less : tie.Need-loop-less Inv-loop μ-loop
-loop-less c = search needs
 
 loop-again : tie.Need-loop-again Inv-loop μ-loop
 loop-again c =
@@ -62,7 +47,7 @@ loop-again c =
     let l = k .before .before .before in
     let s = l .before .before in
     let a = s .args in
-    let t = blocks-turn (a .t2) (whole s) (omega arith) (isSealed (now (a .base))) (l .loop .j) (omega arith) (sym (k .sealed .ensures) ∙ not-false (k .sealed .result) (c .if1 .left)) in
+    let t = blocks-turn (a .t2) (whole s) (omega arith) (isSealed (a .kind) (now (a .base))) (l .loop .j) (omega arith) (sym (k .sealed .ensures) ∙ not-false (k .sealed .result) (c .if1 .left)) in
     (omega arith, sym t ∙ l .loop .inv .1)
 
 returns-2 : tie.Need-returns-2 Inv-loop μ-loop
@@ -70,7 +55,7 @@ returns-2 c =
     let l = c .before in
     let s = l .before .before in
     let a = s .args in
-    sym (blocks-end (a .t2) (whole s) (omega arith) (isSealed (now (a .base))) (l .loop .j) (omega arith)) ∙ l .loop .inv .1
+    sym (blocks-end (a .t2) (whole s) (omega arith) (isSealed (a .kind) (now (a .base))) (l .loop .j) (omega arith)) ∙ l .loop .inv .1
 
 pub all-sealed-spec : {M : Type 1} → statement M
 all-sealed-spec =
@@ -78,12 +63,12 @@ all-sealed-spec =
     (tie.spec
     Inv-loop
     μ-loop
-    loop-holds
-    mul-n
-    element-copy-out-n
+    (λ c. search needs)
+    (λ c. search needs)
+    (λ c. search needs)
     sealed-requires
     returns
-    add-j
-    loop-less
+    (λ c. search needs)
+    (λ c. search needs)
     loop-again
     returns-2)

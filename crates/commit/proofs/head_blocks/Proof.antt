@@ -16,47 +16,20 @@ asked s h e = rw e at (s .pre .1)
 named : (s : tie.Start) (h : Head) → s .args .head ≡ h → headBlocks (s .args .head) (s .args .e) (s .args .r .0) (s .args .q .0) ≡ headBlocks h (s .args .e) (s .args .r .0) (s .args .q .0)
 named s h e = ap (λ (x : Head). headBlocks x (s .args .e) (s .args .r .0) (s .args .q .0)) e
 
-none-requires : tie.Need-none-requires
-none-requires c κs = search needs
-
-enum-told : tie.Need-enum-told
-enum-told c = search needs
-
-enum-told-2 : tie.Need-enum-told-2
-enum-told-2 c = search needs
-
 block-of-requires : tie.Need-block-of-requires
 block-of-requires c κs =
     let s = c .before .before .before in
     (asked s _ (c .enum-told2 .given .1), s .pre .0)
-
-with-requires : tie.Need-with-requires
-with-requires c κs = search needs
-
-enum-told-3 : tie.Need-enum-told-3
-enum-told-3 c = search needs
 
 block-of-requires-2 : tie.Need-block-of-requires-2
 block-of-requires-2 c κs =
     let s = c .before .before .before in
     ((asked s _ (c .enum-told3 .given .1)) .0, s .pre .0)
 
-with-requires-2 : tie.Need-with-requires-2
-with-requires-2 c κs = search needs
-
-enum-told-4 : tie.Need-enum-told-4
-enum-told-4 c = search needs
-
 block-of-requires-3 : tie.Need-block-of-requires-3
 block-of-requires-3 c κs =
     let s = c .before .before .before in
     ((asked s _ (c .enum-told4 .given .1)) .0, s .pre .0)
-
-with-requires-3 : tie.Need-with-requires-3
-with-requires-3 c κs = search needs
-
-enum-told-5 : tie.Need-enum-told-5
-enum-told-5 c = search needs
 
 block-of-requires-4 : tie.Need-block-of-requires-4
 block-of-requires-4 c κs =
@@ -64,28 +37,16 @@ block-of-requires-4 c κs =
     let h = asked s _ (c .enum-told5 .given .1) in
     (search needs, s .pre .0)
 
-with-requires-4 : tie.Need-with-requires-4
-with-requires-4 c κs = search needs
-
 block-of-requires-5 : tie.Need-block-of-requires-5
 block-of-requires-5 c κs =
     let s = c .before .before .before .before .before in
     let h = asked s _ (c .before .before .enum-told5 .given .1) in
     (search needs, s .pre .0)
 
-with-requires-5 : tie.Need-with-requires-5
-with-requires-5 c κs = search needs
-
-enum-told-6 : tie.Need-enum-told-6
-enum-told-6 c = search needs
-
 block-of-requires-6 : tie.Need-block-of-requires-6
 block-of-requires-6 c κs =
     let s = c .before .before .before in
     ((asked s _ (c .enum-told6 .given .1)) .0, s .pre .0)
-
-with-requires-6 : tie.Need-with-requires-6
-with-requires-6 c κs = search needs
 
 returns : tie.Need-returns
 unfolding addAll
@@ -130,25 +91,25 @@ pub head-blocks-spec : {M : Type 1} → statement M
 head-blocks-spec =
     tie.close
     (tie.spec
-    none-requires
-    enum-told
-    enum-told-2
+    (λ c κs. search needs)
+    (λ c. search needs)
+    (λ c. search needs)
     block-of-requires
-    with-requires
-    enum-told-3
+    (λ c κs. search needs)
+    (λ c. search needs)
     block-of-requires-2
-    with-requires-2
-    enum-told-4
+    (λ c κs. search needs)
+    (λ c. search needs)
     block-of-requires-3
-    with-requires-3
-    enum-told-5
+    (λ c κs. search needs)
+    (λ c. search needs)
     block-of-requires-4
-    with-requires-4
+    (λ c κs. search needs)
     block-of-requires-5
-    with-requires-5
-    enum-told-6
+    (λ c κs. search needs)
+    (λ c. search needs)
     block-of-requires-6
-    with-requires-6
+    (λ c κs. search needs)
     returns
     returns-2
     returns-3

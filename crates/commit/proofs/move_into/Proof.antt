@@ -14,14 +14,5 @@ returns c =
     let a = s .args in
     rw (c .if1 .taken) (sym (splice-run-id (now (a .base)) (placeOf (a .e) (a .to .0)) (a .e .size) (place-inside (a .to .0) (s .pre .1 .1) (s .pre .1 .0))))
 
-move-record-requires : tie.Need-move-record-requires
-move-record-requires c κs = search needs
-
-same-length : tie.Need-same-length
-same-length c = search needs
-
-returns-2 : tie.Need-returns-2
-returns-2 c = search needs
-
 pub move-into-spec : {M : Type 1} → statement M
-move-into-spec = tie.close (tie.spec returns move-record-requires same-length returns-2)
+move-into-spec = tie.close (tie.spec returns (λ c κs. search needs) (λ c. search needs) (λ c. search needs))

@@ -4,17 +4,11 @@ use borrow.Author.Needs.{needs}
 use Rattle.commit.proofs.put_stranger.Statement.{statement}
 use Rattle.commit.proofs.put_stranger.Tie as tie
 
-move-record-requires : tie.Need-move-record-requires
-move-record-requires c κs = search needs
-
 put-master-requires : tie.Need-put-master-requires
 put-master-requires c κs =
     let m = c .before .before .before in
     let s = m .before .before .before .before in
     (search needs, (rw (m .move-record .kept .0) (s .pre .1 .0), s .pre .1 .1))
-
-same-length : tie.Need-same-length
-same-length c = search needs
 
 returns : tie.Need-returns
 returns c =
@@ -24,4 +18,4 @@ returns c =
 
 pub put-stranger-spec : {M : Type 1} → statement M
 put-stranger-spec =
-    tie.close (tie.spec move-record-requires put-master-requires same-length returns)
+    tie.close (tie.spec (λ c κs. search needs) put-master-requires (λ c. search needs) returns)

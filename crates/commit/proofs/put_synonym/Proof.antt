@@ -10,15 +10,6 @@ use Rattle.commit.specs.StoreLaws.{setWord-inner}
 use Rattle.commit.proofs.put_synonym.Statement.{statement}
 use Rattle.commit.proofs.put_synonym.Tie as tie
 
-move-into-requires : tie.Need-move-into-requires
-move-into-requires c κs = search needs
-
-put-word-in-requires : tie.Need-put-word-in-requires
-put-word-in-requires c κs = search needs
-
-same-length : tie.Need-same-length
-same-length c = search needs
-
 returns : tie.Need-returns
 returns c =
     let w = c .before .before in
@@ -30,4 +21,4 @@ returns c =
     (setWord-inner (now (a .base)) (placeOf (a .e) (a .r .0)) (recordOf (now (a .base)) (a .e) (a .q .0)) 8 0 (omega arith) (omega (arith, place-inside (a .r .0) (s .pre .1 .1 .0) (s .pre .0))))
 
 pub put-synonym-spec : {M : Type 1} → statement M
-put-synonym-spec = tie.close (tie.spec move-into-requires put-word-in-requires same-length returns)
+put-synonym-spec = tie.close (tie.spec (λ c κs. search needs) (λ c κs. search needs) (λ c. search needs) returns)

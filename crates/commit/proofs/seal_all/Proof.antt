@@ -15,34 +15,19 @@ use Rattle.commit.proofs.seal_all.Lts as lts
 use Rattle.blocks.proofs.seal.Reads as seal-reads
 
 abbrev Inv-loop : tie.InvT-loop
-Inv-loop base₀ blocks count k₀ base k = (k ≤ count) × (length base ≡ length base₀) × (sealEach base (drop k (numbersOf blocks)) ≡ sealEach base₀ (numbersOf blocks))
+Inv-loop base₀ kind blocks count k₀ base k = (k ≤ count) × (length base ≡ length base₀) × (sealEach kind base (drop k (numbersOf blocks)) ≡ sealEach kind base₀ (numbersOf blocks))
 
 abbrev μ-loop : tie.MeasureT-loop
-μ-loop base₀ blocks count k₀ base k = count - k
+μ-loop base₀ kind blocks count k₀ base k = count - k
 
 whole : (s : tie.Start Inv-loop μ-loop) → length (s .args .t2 .numbers) ≡ 12
 whole s = sym (length-map (s .args .t2 .numbers) _) ∙ s .good .1 .0 .1 .1 .0 .1 .0 .1
-
-loop-holds : tie.Need-loop-holds Inv-loop μ-loop
-loop-holds c = search needs
-
-mul-n : tie.Need-mul-n Inv-loop μ-loop
-mul-n c = search needs
-
-element-copy-out-n : tie.Need-element-copy-out-n Inv-loop μ-loop
-element-copy-out-n c = search needs
 
 seal-requires : tie.Need-seal-requires Inv-loop μ-loop
 seal-requires c κs =
     let l = c .before .before .before in
     let s = l .before .before in
     rw (l .loop .inv .1) (block-within (s .args .t2) (whole s) (omega arith) (length (now (s .args .base))) (l .loop .k) (s .pre .1) (omega arith))
-
-add-k : tie.Need-add-k Inv-loop μ-loop
-add-k c = search needs
-
-loop-less : tie.Need-loop-less Inv-loop μ-loop
-loop-less c = search needs
 
 loop-again : tie.Need-loop-again Inv-loop μ-loop
 loop-again c =
@@ -52,17 +37,14 @@ loop-again c =
     let a = s .args in (
       omega arith,
       k .seal .kept .0 ∙ l .loop .inv .1,
-      rw (k .seal .ensures) (sym (seal-turn (a .t2) (whole s) (omega arith) (l .loop .base) (l .loop .k) (omega arith)) ∙ l .loop .inv .2),
+      rw (k .seal .ensures) (sym (seal-turn (a .t2) (whole s) (omega arith) (s .args .kind) (l .loop .base) (l .loop .k) (omega arith)) ∙ l .loop .inv .2),
     )
-
-same-length : tie.Need-same-length Inv-loop μ-loop
-same-length c = search needs
 
 returns : tie.Need-returns Inv-loop μ-loop
 returns c =
     let l = c .before in
     let s = l .before .before in
-    sym (seal-end (s .args .t2) (whole s) (omega arith) (l .loop .base) (l .loop .k) (omega arith)) ∙ l .loop .inv .2
+    sym (seal-end (s .args .t2) (whole s) (omega arith) (s .args .kind) (l .loop .base) (l .loop .k) (omega arith)) ∙ l .loop .inv .2
 
 pub seal-all-spec : {M : Type 1} → statement M
 seal-all-spec =
@@ -70,12 +52,12 @@ seal-all-spec =
     (tie.spec
     Inv-loop
     μ-loop
-    loop-holds
-    mul-n
-    element-copy-out-n
+    (λ c. search needs)
+    (λ c. search needs)
+    (λ c. search needs)
     seal-requires
-    add-k
-    loop-less
+    (λ c. search needs)
+    (λ c. search needs)
     loop-again
-    same-length
+    (λ c. search needs)
     returns)

@@ -5,20 +5,11 @@ use Rattle.commit.specs.StoreLaws.{plan-stored}
 use Rattle.commit.proofs.store.Statement.{statement}
 use Rattle.commit.proofs.store.Tie as tie
 
-store-head-requires : tie.Need-store-head-requires
-store-head-requires c κs = search needs
-
 store-words-requires : tie.Need-store-words-requires
 store-words-requires c κs =
     let h = c .before .before .before in
     let s = h .before .before .before .before .before in
     (s .pre .1 .1 .0 .few, (rw (h .store-head .kept .0) (s .pre .1 .1 .0 .words), s .pre .1 .1 .0 .records))
-
-store-wiped-requires : tie.Need-store-wiped-requires
-store-wiped-requires c κs = search needs
-
-same-length : tie.Need-same-length
-same-length c = search needs
 
 returns : tie.Need-returns
 returns c =
@@ -31,4 +22,4 @@ returns c =
 pub store-spec : {M : Type 1} → statement M
 store-spec =
     tie.close
-    (tie.spec store-head-requires store-words-requires store-wiped-requires same-length returns)
+    (tie.spec (λ c κs. search needs) store-words-requires (λ c κs. search needs) (λ c. search needs) returns)

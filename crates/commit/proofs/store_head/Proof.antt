@@ -26,23 +26,11 @@ stores s h = headStores h (now (s .args .base)) (s .args .e) (now (s .args .area
 named : (s : tie.Start) (h : Head) → s .args .head ≡ h → stores s (s .args .head) ≡ stores s h
 named s h e = ap (stores s) e
 
-enum-told : tie.Need-enum-told
-enum-told c = search needs
-
-enum-told-2 : tie.Need-enum-told-2
-enum-told-2 c = search needs
-
 put-body-requires : tie.Need-put-body-requires
 put-body-requires c κs =
     let t = c .before in
     let s = t .before .before .before .before in
     (asked s Body (t .enum-told2 .given .1), (s .pre .0, (s .pre .1 .0, lent s Body (t .enum-told2 .given .1))))
-
-enum-told-3 : tie.Need-enum-told-3
-enum-told-3 c = search needs
-
-array-copy-out-put-master : tie.Need-array-copy-out-put-master
-array-copy-out-put-master c = search needs
 
 put-master-requires : tie.Need-put-master-requires
 put-master-requires c κs =
@@ -51,9 +39,6 @@ put-master-requires c κs =
     let h = asked s Master (t .enum-told3 .given .1) in
     (h .0, (s .pre .0, (s .pre .1 .0, (lent s Master (t .enum-told3 .given .1), h .1))))
 
-enum-told-4 : tie.Need-enum-told-4
-enum-told-4 c = search needs
-
 put-variable-requires : tie.Need-put-variable-requires
 put-variable-requires c κs =
     let t = c .before in
@@ -61,21 +46,12 @@ put-variable-requires c κs =
     let h = asked s Variable (t .enum-told4 .given .1) in
     (h .0, (s .pre .0, (s .pre .1 .0, (lent s Variable (t .enum-told4 .given .1), h .1))))
 
-enum-told-5 : tie.Need-enum-told-5
-enum-told-5 c = search needs
-
-array-copy-out-put-stranger : tie.Need-array-copy-out-put-stranger
-array-copy-out-put-stranger c = search needs
-
 put-stranger-requires : tie.Need-put-stranger-requires
 put-stranger-requires c κs =
     let t = c .before .before in
     let s = t .before .before .before .before in
     let h = asked s Stranger (t .enum-told5 .given .1) in
     ((h .0, h .1, h .2), (s .pre .0, (s .pre .1 .0, (lent s Stranger (t .enum-told5 .given .1), h .3))))
-
-enum-told-6 : tie.Need-enum-told-6
-enum-told-6 c = search needs
 
 put-synonym-requires : tie.Need-put-synonym-requires
 put-synonym-requires c κs =
@@ -88,18 +64,12 @@ returns : tie.Need-returns
 unfolding storeAll
 returns c = rw (named (c .before .before .before .before) Nothing (c .enum-told .given .1)) refl
 
-same-length : tie.Need-same-length
-same-length c = search needs
-
 returns-2 : tie.Need-returns-2
 unfolding storeAll
 returns-2 c =
     let f = c .before .before in
     let t = f .before .before in
     rw (named (t .before .before .before .before) Body (t .enum-told2 .given .1)) (f .put-body .ensures)
-
-same-length-2 : tie.Need-same-length-2
-same-length-2 c = search needs
 
 returns-3 : tie.Need-returns-3
 unfolding storeAll
@@ -108,9 +78,6 @@ returns-3 c =
     let t = f .before .before .before in
     rw (named (t .before .before .before .before) Master (t .enum-told3 .given .1)) (f .put-master .ensures)
 
-same-length-3 : tie.Need-same-length-3
-same-length-3 c = search needs
-
 returns-4 : tie.Need-returns-4
 unfolding storeAll
 returns-4 c =
@@ -118,18 +85,12 @@ returns-4 c =
     let t = f .before .before in
     rw (named (t .before .before .before .before) Variable (t .enum-told4 .given .1)) (f .put-variable .ensures)
 
-same-length-4 : tie.Need-same-length-4
-same-length-4 c = search needs
-
 returns-5 : tie.Need-returns-5
 unfolding storeAll
 returns-5 c =
     let f = c .before .before in
     let t = f .before .before .before in
     rw (named (t .before .before .before .before) Stranger (t .enum-told5 .given .1)) (f .put-stranger .ensures)
-
-same-length-5 : tie.Need-same-length-5
-same-length-5 c = search needs
 
 returns-6 : tie.Need-returns-6
 unfolding storeAll
@@ -142,27 +103,27 @@ pub store-head-spec : {M : Type 1} → statement M
 store-head-spec =
     tie.close
     (tie.spec
-    enum-told
-    enum-told-2
+    (λ c. search needs)
+    (λ c. search needs)
     put-body-requires
-    enum-told-3
-    array-copy-out-put-master
+    (λ c. search needs)
+    (λ c. search needs)
     put-master-requires
-    enum-told-4
+    (λ c. search needs)
     put-variable-requires
-    enum-told-5
-    array-copy-out-put-stranger
+    (λ c. search needs)
+    (λ c. search needs)
     put-stranger-requires
-    enum-told-6
+    (λ c. search needs)
     put-synonym-requires
     returns
-    same-length
+    (λ c. search needs)
     returns-2
-    same-length-2
+    (λ c. search needs)
     returns-3
-    same-length-3
+    (λ c. search needs)
     returns-4
-    same-length-4
+    (λ c. search needs)
     returns-5
-    same-length-5
+    (λ c. search needs)
     returns-6)

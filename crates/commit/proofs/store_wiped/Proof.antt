@@ -10,15 +10,9 @@ returns : tie.Need-returns
 unfolding storeAll
 returns c = rw (eq-eqb _ _ (c .if1 .taken)) refl
 
-wipe-requires : tie.Need-wipe-requires
-wipe-requires c κs = search needs
-
-same-length : tie.Need-same-length
-same-length c = search needs
-
 returns-2 : tie.Need-returns-2
 unfolding storeAll
 returns-2 c = let w = c .before .before in rw (ne-eqb _ _ (w .before .before .if1 .left)) (w .wipe .ensures)
 
 pub store-wiped-spec : {M : Type 1} → statement M
-store-wiped-spec = tie.close (tie.spec returns wipe-requires same-length returns-2)
+store-wiped-spec = tie.close (tie.spec returns (λ c κs. search needs) (λ c. search needs) returns-2)

@@ -21,26 +21,11 @@ abbrev μ-loop : tie.MeasureT-loop
 whole : (s : tie.Start Inv-loop μ-loop) → length (s .args .t2 .words) ≡ 8
 whole s = sym (length-map (s .args .t2 .words) _) ∙ s .good .1 .0 .1 .1 .1 .1 .1 .1 .0 .1 .0 .1
 
-loop-holds : tie.Need-loop-holds Inv-loop μ-loop
-loop-holds c = search needs
-
-mul-w : tie.Need-mul-w Inv-loop μ-loop
-mul-w c = search needs
-
-element-copy-out-w : tie.Need-element-copy-out-w Inv-loop μ-loop
-element-copy-out-w c = search needs
-
 put-in-requires : tie.Need-put-in-requires Inv-loop μ-loop
 put-in-requires c κs =
     let l = c .before .before .before in
     let s = l .before .before in
     rw (l .loop .inv .1) (word-in-base (s .args .t2) (whole s) (s .pre .0) (length (now (s .args .base))) (l .loop .i) (s .pre .1 .0) (s .pre .1 .1) (omega arith))
-
-add-i : tie.Need-add-i Inv-loop μ-loop
-add-i c = search needs
-
-loop-less : tie.Need-loop-less Inv-loop μ-loop
-loop-less c = search needs
 
 loop-again : tie.Need-loop-again Inv-loop μ-loop
 loop-again c =
@@ -51,9 +36,6 @@ loop-again c =
       k .put-in .kept .0 ∙ l .loop .inv .1,
       rw (k .put-in .ensures) (sym (store-word-turn (s .args .t2) (whole s) (s .pre .0) (l .loop .base) (l .loop .i) (omega arith)) ∙ l .loop .inv .2),
     )
-
-same-length : tie.Need-same-length Inv-loop μ-loop
-same-length c = search needs
 
 returns : tie.Need-returns Inv-loop μ-loop
 returns c =
@@ -67,12 +49,12 @@ store-words-spec =
     (tie.spec
     Inv-loop
     μ-loop
-    loop-holds
-    mul-w
-    element-copy-out-w
+    (λ c. search needs)
+    (λ c. search needs)
+    (λ c. search needs)
     put-in-requires
-    add-i
-    loop-less
+    (λ c. search needs)
+    (λ c. search needs)
     loop-again
-    same-length
+    (λ c. search needs)
     returns)

@@ -5,15 +5,6 @@ use Rattle.commit.specs.DistinctLaws.{three-parts}
 use Rattle.commit.proofs.touched.Statement.{statement}
 use Rattle.commit.proofs.touched.Tie as tie
 
-head-blocks-requires : tie.Need-head-blocks-requires
-head-blocks-requires c κs = search needs
-
-word-blocks-requires : tie.Need-word-blocks-requires
-word-blocks-requires c κs = search needs
-
-wiped-block-requires : tie.Need-wiped-block-requires
-wiped-block-requires c κs = search needs
-
 returns : tie.Need-returns
 unfolding planBlocks
 returns c =
@@ -22,4 +13,4 @@ returns c =
 
 pub touched-spec : {M : Type 1} → statement M
 touched-spec =
-    tie.close (tie.spec head-blocks-requires word-blocks-requires wiped-block-requires returns)
+    tie.close (tie.spec (λ c κs. search needs) (λ c κs. search needs) (λ c κs. search needs) returns)

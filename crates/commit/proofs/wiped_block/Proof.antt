@@ -11,15 +11,9 @@ returns : tie.Need-returns
 unfolding addAll
 returns c = (rw (eq-eqb _ _ (c .if1 .taken)) refl, omega arith)
 
-block-of-requires : tie.Need-block-of-requires
-block-of-requires c κs = search needs
-
-with-requires : tie.Need-with-requires
-with-requires c κs = search needs
-
 returns-2 : tie.Need-returns-2
 unfolding addAll
 returns-2 c = (rw (ne-eqb _ _ (c .before .before .if1 .left), ← c .before .block-of .ensures) (c .with .ensures .0), omega (arith, c .with .ensures .1))
 
 pub wiped-block-spec : {M : Type 1} → statement M
-wiped-block-spec = tie.close (tie.spec returns block-of-requires with-requires returns-2)
+wiped-block-spec = tie.close (tie.spec returns (λ c κs. search needs) (λ c κs. search needs) returns-2)

@@ -11,15 +11,6 @@ use borrow.Author.Needs.{needs}
 use Rattle.console.proofs.act.Statement.{statement}
 use Rattle.console.proofs.act.Tie as tie
 
-slice-aggregate-copy-in : tie.Need-slice-aggregate-copy-in
-slice-aggregate-copy-in c = search needs
-
-copy-in-requires : tie.Need-copy-in-requires
-copy-in-requires c κs = search needs
-
-array-borrow-prefix-area : tie.Need-array-borrow-prefix-area
-array-borrow-prefix-area c = search needs
-
 -- what is lent is the line's area
 whole : (c : tie.After-copy-in)
     → let given = now (c .before .before .before .before .before .before .args .given) in
@@ -30,21 +21,6 @@ whole c =
 
 slice-aggregate-call : tie.Need-slice-aggregate-call
 slice-aggregate-call c = ap length (sym (whole (c .before .before)))
-
-call-requires : tie.Need-call-requires
-call-requires c κs = search needs
-
-answer-requires : tie.Need-answer-requires
-answer-requires c κs = search needs
-
-slice-aggregate-finish : tie.Need-slice-aggregate-finish
-slice-aggregate-finish c = search needs
-
-finish-requires : tie.Need-finish-requires
-finish-requires c κs = search needs
-
-same-length : tie.Need-same-length
-same-length c = search needs
 
 returns : tie.Need-returns
 returns c =
@@ -59,13 +35,13 @@ pub act-spec : {M : Type 1} → statement M
 act-spec =
     tie.close
     (tie.spec
-    slice-aggregate-copy-in
-    copy-in-requires
-    array-borrow-prefix-area
+    (λ c. search needs)
+    (λ c κs. search needs)
+    (λ c. search needs)
     slice-aggregate-call
-    call-requires
-    answer-requires
-    slice-aggregate-finish
-    finish-requires
-    same-length
+    (λ c κs. search needs)
+    (λ c κs. search needs)
+    (λ c. search needs)
+    (λ c κs. search needs)
+    (λ c. search needs)
     returns)

@@ -8,31 +8,10 @@ use borrow.Author.Needs.{needs}
 use Rattle.console.proofs.ask.Statement.{statement}
 use Rattle.console.proofs.ask.Tie as tie
 
-operation-in-requires : tie.Need-operation-in-requires
-operation-in-requires c κs = search needs
-
-set-in-requires : tie.Need-set-in-requires
-set-in-requires c κs = search needs
-
-reference-in-requires : tie.Need-reference-in-requires
-reference-in-requires c κs = search needs
-
-path-in-requires : tie.Need-path-in-requires
-path-in-requires c κs = search needs
-
-part-in-requires : tie.Need-part-in-requires
-part-in-requires c κs = search needs
-
-is-read-requires : tie.Need-is-read-requires
-is-read-requires c κs = search needs
-
 read-requires : tie.Need-read-requires
 read-requires c κs =
     let t = c .before .before .before .before .before in
     sym (t .before .is-read .ensures) ∙ t .if1 .taken
-
-same-length : tie.Need-same-length
-same-length c = search needs
 
 returns : tie.Need-returns
 returns c =
@@ -48,18 +27,12 @@ returns c =
     (now (k .part-in .result)) (q .reference-in .result .0) (o .operation-in .ensures) (s .set-in .ensures) (q .reference-in .ensures) (p .path-in .ensures)
     (k .part-in .ensures) (sym (t .before .is-read .ensures) ∙ t .if1 .taken) (r .read .ensures)
 
-part-in-requires-2 : tie.Need-part-in-requires-2
-part-in-requires-2 c κs = search needs
-
 act-requires : tie.Need-act-requires
 act-requires c κs =
     let f = c .before .before .before .before .before in
     let t = f .before in
     let s = t .before .before .before .before .before .before .before .before .before .before .before in
     (sym (t .before .is-read .ensures) ∙ t .if1 .left, omega (arith, ap length (f .part-in2 .ensures), part-short (now (s .args .line)) 5, s .pre .0 .short))
-
-same-length-2 : tie.Need-same-length-2
-same-length-2 c = search needs
 
 returns-2 : tie.Need-returns-2
 returns-2 c =
@@ -80,16 +53,16 @@ pub ask-spec : {M : Type 1} → statement M
 ask-spec =
     tie.close
     (tie.spec
-    operation-in-requires
-    set-in-requires
-    reference-in-requires
-    path-in-requires
-    part-in-requires
-    is-read-requires
+    (λ c κs. search needs)
+    (λ c κs. search needs)
+    (λ c κs. search needs)
+    (λ c κs. search needs)
+    (λ c κs. search needs)
+    (λ c κs. search needs)
     read-requires
-    same-length
+    (λ c. search needs)
     returns
-    part-in-requires-2
+    (λ c κs. search needs)
     act-requires
-    same-length-2
+    (λ c. search needs)
     returns-2)

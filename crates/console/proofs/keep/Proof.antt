@@ -13,19 +13,10 @@ returns c =
     let s = c .before in
     (record { fits = omega arith; bytes = kept-full (now (s .args .line)) (s .args .n) (s .args .byte) (s .pre .0) (c .if1 .taken) }, rw (eq-eqb _ 129 (c .if1 .taken)) refl)
 
-slice-write-line : tie.Need-slice-write-line
-slice-write-line c = search needs
-
-add-result : tie.Need-add-result
-add-result c = search needs
-
-same-length : tie.Need-same-length
-same-length c = search needs
-
 returns-2 : tie.Need-returns-2
 returns-2 c =
     let s = c .before in
     (record { fits = omega arith; bytes = kept-more (now (s .args .line)) (s .args .n) (s .args .byte) (s .pre .0) (omega arith) }, rw (ne-eqb _ 129 (c .if1 .left)) refl)
 
 pub keep-spec : {M : Type 1} → statement M
-keep-spec = tie.close (tie.spec returns slice-write-line add-result same-length returns-2)
+keep-spec = tie.close (tie.spec returns (λ c. search needs) (λ c. search needs) (λ c. search needs) returns-2)

@@ -4,14 +4,8 @@ use borrow.Author.Needs.{needs}
 use Rattle.console.proofs.record_given.Statement.{statement}
 use Rattle.console.proofs.record_given.Tie as tie
 
-end-requires : tie.Need-end-requires
-end-requires c κs = search needs
-
-number-requires : tie.Need-number-requires
-number-requires c κs = search needs
-
 returns : tie.Need-returns
 returns c = rw (c .before .before .number .ensures, c .before .before .before .end .ensures) refl
 
 pub record-given-spec : {M : Type 1} → statement M
-record-given-spec = tie.close (tie.spec end-requires number-requires returns)
+record-given-spec = tie.close (tie.spec (λ c κs. search needs) (λ c κs. search needs) returns)

@@ -17,20 +17,11 @@ six c = sym (c .before .six-fields .ensures) ∙ not-false _ (c .if2 .left)
 tested : (c : tie.Else2) → Six (now (c .before .before .before .before .before .before .args .line))
 tested c = record { short = omega arith; six = eqb-true _ _ (six c) }
 
-form-requires : tie.Need-form-requires
-form-requires c κs = search needs
-
 returns : tie.Need-returns
 returns c =
     let t = c .before .before in
     let a = t .before .before .before .before .args in
     unmade-line (a .number) _ (now (a .line)) (now (a .schema)) (now (a .base)) (now (a .out)) _ (rw (lt-leb _ 128 (t .if1 .taken)) refl) (c .form .ensures .0) (c .form .ensures .1) (c .form .ensures .2)
-
-six-fields-requires : tie.Need-six-fields-requires
-six-fields-requires c κs = search needs
-
-form-requires-2 : tie.Need-form-requires-2
-form-requires-2 c κs = search needs
 
 returns-2 : tie.Need-returns-2
 returns-2 c =
@@ -42,9 +33,6 @@ returns-2 c =
 
 made-requires : tie.Need-made-requires
 made-requires c κs = tested c
-
-form-requires-3 : tie.Need-form-requires-3
-form-requires-3 c κs = search needs
 
 returns-3 : tie.Need-returns-3
 returns-3 c =
@@ -60,9 +48,6 @@ ask-requires c κs =
     let t = c .before .before in
     (tested (t .before .before), sym (t .before .made .ensures) ∙ not-false _ (t .if3 .left))
 
-same-length : tie.Need-same-length
-same-length c = search needs
-
 returns-4 : tie.Need-returns-4
 returns-4 c =
     let k = c .before .before in
@@ -77,14 +62,14 @@ pub respond-spec : {M : Type 1} → statement M
 respond-spec =
     tie.close
     (tie.spec
-    form-requires
+    (λ c κs. search needs)
     returns
-    six-fields-requires
-    form-requires-2
+    (λ c κs. search needs)
+    (λ c κs. search needs)
     returns-2
     made-requires
-    form-requires-3
+    (λ c κs. search needs)
     returns-3
     ask-requires
-    same-length
+    (λ c. search needs)
     returns-4)

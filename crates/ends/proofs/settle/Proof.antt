@@ -6,14 +6,8 @@ use Rattle.ends.specs.EndsLaws.{settled-refused, settled-done, settled-d
 use Rattle.ends.proofs.settle.Statement.{statement}
 use Rattle.ends.proofs.settle.Tie as tie
 
-number-requires : tie.Need-number-requires
-number-requires c κs = search needs
-
-ended-requires : tie.Need-ended-requires
-ended-requires c κs = search needs
-
 returns : tie.Need-returns
-returns c = settled-refused _ _ _ _ _ _ (λ z. c .before .if1 .taken (c .before .before .number .ensures ∙ z)) (c .ended .ensures .0) (ap (λ r. r .0) (c .ended .ensures .1))
+returns c = settled-refused _ _ _ _ _ _ _ (λ z. c .before .if1 .taken (c .before .before .number .ensures ∙ z)) (c .ended .ensures .0) (ap (λ r. r .0) (c .ended .ensures .1))
 
 commit-requires : tie.Need-commit-requires
 commit-requires c κs =
@@ -21,41 +15,29 @@ commit-requires c κs =
     let d = p .1 .1 (status-number-one _ Done (sym (c .before .before .number .ensures) ∙ c .before .if1 .left)) in
     (p .0, (p .1 .0, (d .0, d .1)))
 
-ended-requires-2 : tie.Need-ended-requires-2
-ended-requires-2 c κs = search needs
-
-same-length : tie.Need-same-length
-same-length c = search needs
-
 returns-2 : tie.Need-returns-2
 returns-2 c =
     let e = c .before .before .before .before .before .before in
-    settled-done _ _ _ _ _ _ (sym (e .before .number .ensures) ∙ e .if1 .left) (c .before .before .before .before .commit .ensures .0) (c .before .if2 .taken) (c .before .before .before .before .commit .ensures .1)
+    settled-done _ _ _ _ _ _ _ (sym (e .before .number .ensures) ∙ e .if1 .left) (c .before .before .before .before .commit .ensures .0) (c .before .if2 .taken) (c .before .before .before .before .commit .ensures .1)
     (c .ended2 .ensures .0) (ap (λ r. r .0) (c .ended2 .ensures .1))
-
-ended-requires-3 : tie.Need-ended-requires-3
-ended-requires-3 c κs = search needs
-
-same-length-2 : tie.Need-same-length-2
-same-length-2 c = search needs
 
 returns-3 : tie.Need-returns-3
 returns-3 c =
     let e = c .before .before .before .before .before .before in
-    settled-damaged _ _ _ _ _ _ (sym (e .before .number .ensures) ∙ e .if1 .left) (c .before .before .before .before .commit .ensures .0) (c .before .if2 .left) (c .before .before .before .before .commit .ensures .1)
+    settled-damaged _ _ _ _ _ _ _ (sym (e .before .number .ensures) ∙ e .if1 .left) (c .before .before .before .before .commit .ensures .0) (c .before .if2 .left) (c .before .before .before .before .commit .ensures .1)
     (c .ended3 .ensures .0) (ap (λ r. r .0) (c .ended3 .ensures .1))
 
 pub settle-spec : {M : Type 1} → statement M
 settle-spec =
     tie.close
     (tie.spec
-    number-requires
-    ended-requires
+    (λ c κs. search needs)
+    (λ c κs. search needs)
     returns
     commit-requires
-    ended-requires-2
-    same-length
+    (λ c κs. search needs)
+    (λ c. search needs)
     returns-2
-    ended-requires-3
-    same-length-2
+    (λ c κs. search needs)
+    (λ c. search needs)
     returns-3)

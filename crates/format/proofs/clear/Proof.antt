@@ -5,14 +5,8 @@ use borrow.Author.Needs.{needs}
 use Rattle.format.proofs.clear.Statement.{statement}
 use Rattle.format.proofs.clear.Tie as tie
 
-zero-requires : tie.Need-zero-requires
-zero-requires c κs = search needs
-
-same-length : tie.Need-same-length
-same-length c = search needs
-
 returns : tie.Need-returns
 returns c = c .before .before .zero .ensures ∙ zeros-whole _ _ (c .before .before .before .before .before .pre)
 
 pub clear-spec : {M : Type 1} → statement M
-clear-spec = tie.close (tie.spec zero-requires same-length returns)
+clear-spec = tie.close (tie.spec (λ c κs. search needs) (λ c. search needs) returns)

@@ -19,9 +19,6 @@ asked c = not-false (c .before .before .before .args .asked) (c .before .if1 .le
 returns : tie.Need-returns
 returns c = let a = c .before .before .args in not-asked (a .asked) (blankAreaKey (a .e) (now (a .area))) (not-true (a .asked) (c .if1 .taken))
 
-cast-part : tie.Need-cast-part
-cast-part c = search needs
-
 part-requires : tie.Need-part-requires
 part-requires c κs =
     let d = c .before .before in
@@ -54,7 +51,7 @@ blank-area-key-spec =
     tie.close
     (tie.spec
     returns
-    cast-part
+    (λ c. search needs)
     part-requires
     is-blank-requires
     returns-2

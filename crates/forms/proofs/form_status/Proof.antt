@@ -25,23 +25,11 @@ fits c = let l = c .before .before in rw (l .area-length .ensures, l .before .of
 keyed : (c : tie.Else2) → rungsOf (start (c .before .before .before .before .before) .args .o) .key ≡ true
 keyed c = let l = c .before .before .before .before .before in rw (l .before .of .ensures) at (not-false (l .before .of .result .key) (c .if2 .left))
 
-of-requires : tie.Need-of-requires
-of-requires c κs = search needs
-
-area-length-requires : tie.Need-area-length-requires
-area-length-requires c κs = search needs
-
 returns : tie.Need-returns
 returns c =
     let l = c .before .before in
     let a = start l .args in
     form-area (a .o) (a .e) (a .on) (a .link) (a .k) (a .reference) (now (a .key)) (now (a .area)) (rw (l .area-length .ensures, l .before .of .ensures) at (c .if1 .taken))
-
-wrong-reference-requires : tie.Need-wrong-reference-requires
-wrong-reference-requires c κs = search needs
-
-decide-requires : tie.Need-decide-requires
-decide-requires c κs = search needs
 
 returns-2 : tie.Need-returns-2
 returns-2 c =
@@ -94,11 +82,11 @@ pub form-status-spec : {M : Type 1} → statement M
 form-status-spec =
     tie.close
     (tie.spec
-    of-requires
-    area-length-requires
+    (λ c κs. search needs)
+    (λ c κs. search needs)
     returns
-    wrong-reference-requires
-    decide-requires
+    (λ c κs. search needs)
+    (λ c κs. search needs)
     returns-2
     returns-3
     of-requires-2

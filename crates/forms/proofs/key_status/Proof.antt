@@ -5,9 +5,6 @@ use borrow.Author.Needs.{needs}
 use Rattle.forms.proofs.key_status.Statement.{statement}
 use Rattle.forms.proofs.key_status.Tie as tie
 
-is-blank-requires : tie.Need-is-blank-requires
-is-blank-requires c κs = search needs
-
 blank-area-key-requires : tie.Need-blank-area-key-requires
 blank-area-key-requires c κs =
     let s = c .before .before in
@@ -18,9 +15,6 @@ other-area-key-requires c κs =
     let s = c .before .before .before in
     (s .pre .0, (s .pre .1 .0, (λ h. s .pre .1 .1 .0 (rw h (or-true (s .args .q .blank))), s .pre .1 .1 .1)))
 
-decide-requires : tie.Need-decide-requires
-decide-requires c κs = search needs
-
 returns : tie.Need-returns
 returns c = rw (c .before .other-area-key .ensures, c .before .before .blank-area-key .ensures, c .before .before .before .is-blank .ensures) at (c .decide .ensures)
 
@@ -28,8 +22,8 @@ pub key-status-spec : {M : Type 1} → statement M
 key-status-spec =
     tie.close
     (tie.spec
-    is-blank-requires
+    (λ c κs. search needs)
     blank-area-key-requires
     other-area-key-requires
-    decide-requires
+    (λ c κs. search needs)
     returns)

@@ -25,9 +25,6 @@ within c = c .before .before .before .before .pre .1 .1 .1 (ne-eqb _ _ (c .if2 .
 returns : tie.Need-returns
 returns c = let a = c .before .before .args in not-asked (a .asked) (otherAreaKey (a .e) (a .on) (keyOf (a .control)) (now (a .area))) (not-true (a .asked) (c .if1 .taken))
 
-cast-part : tie.Need-cast-part
-cast-part c = search needs
-
 part-requires : tie.Need-part-requires
 part-requires c κs =
     let d = c .before .before in
@@ -49,9 +46,6 @@ area-key-place-requires c κs = omega (arith, within c, c .before .before .befor
 
 path-of-requires : tie.Need-path-of-requires
 path-of-requires c κs = omega (arith, within (c .before), c .before .before .before .before .before .pre .0 .few)
-
-cast-part-2 : tie.Need-cast-part-2
-cast-part-2 c = search needs
 
 part-requires-2 : tie.Need-part-requires-2
 part-requires-2 c κs =
@@ -81,13 +75,13 @@ other-area-key-spec =
     tie.close
     (tie.spec
     returns
-    cast-part
+    (λ c. search needs)
     part-requires
     same-requires
     returns-2
     area-key-place-requires
     path-of-requires
-    cast-part-2
+    (λ c. search needs)
     part-requires-2
     same-requires-2
     returns-3)

@@ -87,12 +87,6 @@ told c =
     let p = k .before .before in
     rw (k .part .ensures .0, k .part .ensures .1, len-is p, at-is p, p .before .before .loop .inv .1) at (sym (c .at .ensures))
 
-record-of-requires : tie.Need-record-of-requires Inv-loop μ-loop
-record-of-requires c κs = search needs
-
-cast-paths : tie.Need-cast-paths Inv-loop μ-loop
-cast-paths c = search needs
-
 loop-holds : tie.Need-loop-holds Inv-loop μ-loop
 unfolding allBelow
 loop-holds c = (search needs, sym (area-key-first (c .before .before .before .before .args .e)), refl)
@@ -100,14 +94,8 @@ loop-holds c = (search needs, sym (area-key-first (c .before .before .before .be
 path-of-requires : tie.Need-path-of-requires Inv-loop μ-loop
 path-of-requires c κs = omega (arith, c .before .before .before .before .before .before .pre .1 .1 .0 .few)
 
-cast-len : tie.Need-cast-len Inv-loop μ-loop
-cast-len c = search needs
-
 part-requires : tie.Need-part-requires Inv-loop μ-loop
 part-requires c κs = (short (c .before), area-fits (c .before))
-
-cast-at : tie.Need-cast-at Inv-loop μ-loop
-cast-at c = search needs
 
 at-requires : tie.Need-at-requires Inv-loop μ-loop
 at-requires c κs =
@@ -128,12 +116,6 @@ add-at c =
     let p = c .before .before .before .before .before in
     let s = Start-of p in
     omega (arith, area-fits p, s .pre .1 .1 .1 .1, keys-inside (s .args .e) (s .pre .1 .1 .0), whole-inside (s .args .r .0) (s .pre .1 .0) (s .pre .0), s .pre .1 .0 .small)
-
-add-j : tie.Need-add-j Inv-loop μ-loop
-add-j c = search needs
-
-loop-less : tie.Need-loop-less Inv-loop μ-loop
-loop-less c = search needs
 
 loop-again : tie.Need-loop-again Inv-loop μ-loop
 loop-again c =
@@ -162,17 +144,17 @@ other-stored-key-spec =
     (tie.spec
     Inv-loop
     μ-loop
-    record-of-requires
-    cast-paths
+    (λ c κs. search needs)
+    (λ c. search needs)
     loop-holds
     path-of-requires
-    cast-len
+    (λ c. search needs)
     part-requires
-    cast-at
+    (λ c. search needs)
     at-requires
     returns
     add-at
-    add-j
-    loop-less
+    (λ c. search needs)
+    (λ c. search needs)
     loop-again
     returns-2)

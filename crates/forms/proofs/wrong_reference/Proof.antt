@@ -4,11 +4,8 @@ use borrow.Author.Needs.{needs}
 use Rattle.forms.proofs.wrong_reference.Statement.{statement}
 use Rattle.forms.proofs.wrong_reference.Tie as tie
 
-end-requires : tie.Need-end-requires
-end-requires c κs = search needs
-
 returns : tie.Need-returns
 returns c = rw (c .before .before .before .before .before .end .ensures) refl
 
 pub wrong-reference-spec : {M : Type 1} → statement M
-wrong-reference-spec = tie.close (tie.spec end-requires returns)
+wrong-reference-spec = tie.close (tie.spec (λ c κs. search needs) returns)

@@ -15,21 +15,6 @@ of-requires c κs = search (needs, master-in (c .before .before .before .pre .0)
 find-requires : tie.Need-find-requires
 find-requires c κs = search (needs, master-in (c .before .before .before .before .before .pre .0))
 
-enum-told : tie.Need-enum-told
-enum-told c = search needs
-
-ended-requires : tie.Need-ended-requires
-ended-requires c κs = search needs
-
-enum-known-found : tie.Need-enum-known-found
-enum-known-found c = search needs
-
-ended-requires-2 : tie.Need-ended-requires-2
-ended-requires-2 c κs = search needs
-
-enum-told-2 : tie.Need-enum-told-2
-enum-told-2 c = search needs
-
 home-requires : tie.Need-home-requires
 home-requires c κs = search (needs, master-in (c .before .before .before .before .before .before .before .before .before .before .pre .0))
 
@@ -58,26 +43,17 @@ settle-requires c κs =
     let i = master-in (p .0) in
     (i .lies, (i .fields, λ d. (a .add-master .ensures .1 .0 d .1, any-head (a .add-master .result .plan .head) (s .args .e) (now (s .args .area)) (p .1 .1))))
 
-same-length : tie.Need-same-length
-same-length c = search needs
-
 returns : tie.Need-returns
 returns c =
     let f = c .before .before .before .before in
     rw (c .ended .ensures .0, c .ended .ensures .1)
     (add-by-damage _ _ _ _ _ (told-found _ _ _ _ Damaged (f .find .ensures .0) (f .before .before .of .ensures .0) (c .before .enum-told .given .1)))
 
-same-length-2 : tie.Need-same-length-2
-same-length-2 c = search needs
-
 returns-2 : tie.Need-returns-2
 returns-2 c =
     let f = c .before .before .before .before .before in
     rw (c .ended2 .ensures .0, c .ended2 .ensures .1)
     (by-presence _ _ _ _ _ _ (told-found _ _ _ _ (At _) (f .find .ensures .0) (f .before .before .of .ensures .0) (c .before .before .found .given .1)))
-
-same-length-3 : tie.Need-same-length-3
-same-length-3 c = search needs
 
 returns-3 : tie.Need-returns-3
 returns-3 c =
@@ -94,17 +70,17 @@ addm-spec =
     (tie.spec
     of-requires
     find-requires
-    enum-told
-    ended-requires
-    enum-known-found
-    ended-requires-2
-    enum-told-2
+    (λ c. search needs)
+    (λ c κs. search needs)
+    (λ c. search needs)
+    (λ c κs. search needs)
+    (λ c. search needs)
     home-requires
     add-master-requires
     settle-requires
-    same-length
+    (λ c. search needs)
     returns
-    same-length-2
+    (λ c. search needs)
     returns-2
-    same-length-3
+    (λ c. search needs)
     returns-3)

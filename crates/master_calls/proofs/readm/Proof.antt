@@ -14,21 +14,6 @@ of-requires c κs = search (needs, master-in (c .before .before .before .pre .0)
 find-requires : tie.Need-find-requires
 find-requires c κs = search (needs, master-in (c .before .before .before .before .pre .0))
 
-enum-told : tie.Need-enum-told
-enum-told c = search needs
-
-ended-requires : tie.Need-ended-requires
-ended-requires c κs = search needs
-
-enum-told-2 : tie.Need-enum-told-2
-enum-told-2 c = search needs
-
-ended-requires-2 : tie.Need-ended-requires-2
-ended-requires-2 c κs = search needs
-
-enum-known-found : tie.Need-enum-known-found
-enum-known-found c = search needs
-
 give-requires : tie.Need-give-requires
 give-requires c κs =
     let f = c .before .before .before .before in
@@ -47,9 +32,6 @@ returns-2 c =
     rw (c .ended2 .ensures .0, c .ended2 .ensures .1)
     (by-absence _ readm-call _ _ _ _ _ (told-found _ _ _ _ Missing (f .find .ensures .0) (f .before .of .ensures .0) (c .before .enum-told2 .given .1)))
 
-same-length : tie.Need-same-length
-same-length c = search needs
-
 returns-3 : tie.Need-returns-3
 returns-3 c =
     let g = c .before .before in
@@ -62,13 +44,13 @@ readm-spec =
     (tie.spec
     of-requires
     find-requires
-    enum-told
-    ended-requires
-    enum-told-2
-    ended-requires-2
-    enum-known-found
+    (λ c. search needs)
+    (λ c κs. search needs)
+    (λ c. search needs)
+    (λ c κs. search needs)
+    (λ c. search needs)
     give-requires
     returns
     returns-2
-    same-length
+    (λ c. search needs)
     returns-3)

@@ -11,12 +11,6 @@ of-requires c κs = search (needs, master-in (c .before .pre .0 .1))
 home-requires : tie.Need-home-requires
 home-requires c κs = search (needs, master-in (c .before .before .pre .0 .1))
 
-number-requires : tie.Need-number-requires
-number-requires c κs = search needs
-
-ended-requires : tie.Need-ended-requires
-ended-requires c κs = search needs
-
 returns : tie.Need-returns
 returns c =
     let n = c .before in
@@ -24,4 +18,4 @@ returns c =
     λ r area b. rqloc-ends _ _ _ _ _ (c .ended .ensures .0) (ap (λ r. r .0) (c .ended .ensures .1) ∙ n .number .ensures ∙ w)
 
 pub rqloc-spec : {M : Type 1} → statement M
-rqloc-spec = tie.close (tie.spec of-requires home-requires number-requires ended-requires returns)
+rqloc-spec = tie.close (tie.spec of-requires home-requires (λ c κs. search needs) (λ c κs. search needs) returns)

@@ -9,9 +9,6 @@ use borrow.Author.Needs.{needs}
 use Rattle.master_plans.proofs.add_beside.Statement.{statement}
 use Rattle.master_plans.proofs.add_beside.Tie as tie
 
-held-by-own-requires : tie.Need-held-by-own-requires
-held-by-own-requires c κs = search needs
-
 synonym-plan-requires : tie.Need-synonym-plan-requires
 synonym-plan-requires c κs =
     let k = c .before in
@@ -33,9 +30,6 @@ returns c =
       ),
     )
 
-add-for-stranger-requires : tie.Need-add-for-stranger-requires
-add-for-stranger-requires c κs = search needs
-
 returns-2 : tie.Need-returns-2
 returns-2 c =
     let k = c .before .before in
@@ -50,8 +44,8 @@ pub add-beside-spec : {M : Type 1} → statement M
 add-beside-spec =
     tie.close
     (tie.spec
-    held-by-own-requires
+    (λ c κs. search needs)
     synonym-plan-requires
     returns
-    add-for-stranger-requires
+    (λ c κs. search needs)
     returns-2)

@@ -20,21 +20,6 @@ tested c t h =
     let a = n .before .before .before .args in
     stranger-tests (now (a .base)) (a .e) (a .h .0) (n .before .root-prior .ensures) (n .root-next .ensures) (c .before .bad-root .ensures) (c .bad-root2 .ensures) h
 
-root-prior-requires : tie.Need-root-prior-requires
-root-prior-requires c κs = search needs
-
-root-next-requires : tie.Need-root-next-requires
-root-next-requires c κs = search needs
-
-bad-root-requires : tie.Need-bad-root-requires
-bad-root-requires c κs = search needs
-
-bad-root-requires-2 : tie.Need-bad-root-requires-2
-bad-root-requires-2 c κs = search needs
-
-refused-requires : tie.Need-refused-requires
-refused-requires c κs = search needs
-
 returns : tie.Need-returns
 returns c =
     let k = c .before in
@@ -70,11 +55,11 @@ pub add-for-stranger-spec : {M : Type 1} → statement M
 add-for-stranger-spec =
     tie.close
     (tie.spec
-    root-prior-requires
-    root-next-requires
-    bad-root-requires
-    bad-root-requires-2
-    refused-requires
+    (λ c κs. search needs)
+    (λ c κs. search needs)
+    (λ c κs. search needs)
+    (λ c κs. search needs)
+    (λ c κs. search needs)
     returns
     stranger-plan-requires
     returns-2)

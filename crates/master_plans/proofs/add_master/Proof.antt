@@ -6,7 +6,7 @@ use native.Mathlib.Omega.{arith}
 use borrow.Author.Tests.{not-true, not-false}
 use denote.Ref.{now}
 use Rattle.records.specs.Records.{isLive}
-use Rattle.masters.specs.Find.{lowestFree}
+use Rattle.scan.specs.Scan.{lowestFree}
 use Rattle.master_plans.specs.TestLaws.{stands-as}
 use Rattle.master_plans.specs.AddLaws.{home-stands, add-home-status, add-home-stores, add-full, add-beside-status, add-beside-stores, free-in, free-apart}
 use Rattle.plans.specs.MadeLaws.{refused-status, refused-none, none-refused}
@@ -21,12 +21,6 @@ live c = sym (c .before .is-live .ensures) ∙ not-false _ (c .if1 .left)
 small : (c : tie.Else2) → lowestFree (now (c .before .before .before .before .before .before .args .base)) (c .before .before .before .before .before .before .args .e) ≤ c .before .before .before .before .before .before .args .e .records
 small c = omega (arith, c .before .before .lowest-free .ensures, c .if2 .left)
 
-is-live-requires : tie.Need-is-live-requires
-is-live-requires c κs = search needs
-
-start-requires : tie.Need-start-requires
-start-requires c κs = search needs
-
 returns : tie.Need-returns
 returns c =
     let k = c .before .before in
@@ -35,12 +29,6 @@ returns c =
     let l = sym (k .is-live .ensures) ∙ not-true _ (c .before .if1 .taken) in
     let z = stands-as (home-stands (now (a .base)) (a .e) (s .pre .0) (s .pre .1 .0) (a .h .0) (s .pre .1 .1 .1 .0) (c .start .ensures)) (add-home-stores (now (a .base)) (a .e) (a .h .0) l) in
     (add-home-status (now (a .base)) (a .e) (a .h .0) l, (λ _. (z .stores, z .ok), none-refused refl))
-
-lowest-free-requires : tie.Need-lowest-free-requires
-lowest-free-requires c κs = search needs
-
-refused-requires : tie.Need-refused-requires
-refused-requires c κs = search needs
 
 returns-2 : tie.Need-returns-2
 returns-2 c =
@@ -92,11 +80,11 @@ pub add-master-spec : {M : Type 1} → statement M
 add-master-spec =
     tie.close
     (tie.spec
-    is-live-requires
-    start-requires
+    (λ c κs. search needs)
+    (λ c κs. search needs)
     returns
-    lowest-free-requires
-    refused-requires
+    (λ c κs. search needs)
+    (λ c κs. search needs)
     returns-2
     add-beside-requires
     returns-3)

@@ -11,11 +11,8 @@ returns c = let a = c .before .before .args in root-none (now (a .base)) (a .e) 
 returns-2 : tie.Need-returns-2
 returns-2 c = let a = c .before .before .before .before .args in root-above (now (a .base)) (a .e) (a .p) (c .if2 .taken)
 
-is-live-requires : tie.Need-is-live-requires
-is-live-requires c κs = search needs
-
 returns-3 : tie.Need-returns-3
 returns-3 c = let a = c .before .before .before .before .before .args in root-live (now (a .base)) (a .e) (a .p) (search needs) (c .is-live .ensures)
 
 pub bad-root-spec : {M : Type 1} → statement M
-bad-root-spec = tie.close (tie.spec returns returns-2 is-live-requires returns-3)
+bad-root-spec = tie.close (tie.spec returns returns-2 (λ c κs. search needs) returns-3)

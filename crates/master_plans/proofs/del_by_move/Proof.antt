@@ -20,15 +20,6 @@ tested : (c : tie.After-bad-root) (t : Bool) → c .bad-root .result ≡ t
     ≡ t
 tested c t h = rw (c .bad-root .ensures, c .before .root-next .ensures) at h
 
-root-next-requires : tie.Need-root-next-requires
-root-next-requires c κs = search needs
-
-bad-root-requires : tie.Need-bad-root-requires
-bad-root-requires c κs = search needs
-
-refused-requires : tie.Need-refused-requires
-refused-requires c κs = search needs
-
 returns : tie.Need-returns
 returns c =
     let d = tested (c .before .before) _ (c .before .if1 .taken) in
@@ -61,9 +52,9 @@ pub del-by-move-spec : {M : Type 1} → statement M
 del-by-move-spec =
     tie.close
     (tie.spec
-    root-next-requires
-    bad-root-requires
-    refused-requires
+    (λ c κs. search needs)
+    (λ c κs. search needs)
+    (λ c κs. search needs)
     returns
     move-plan-requires
     returns-2)

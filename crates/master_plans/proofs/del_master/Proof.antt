@@ -10,12 +10,6 @@ use borrow.Author.Needs.{needs}
 use Rattle.master_plans.proofs.del_master.Statement.{statement}
 use Rattle.master_plans.proofs.del_master.Tie as tie
 
-has-points-requires : tie.Need-has-points-requires
-has-points-requires c κs = search needs
-
-refused-requires : tie.Need-refused-requires
-refused-requires c κs = search needs
-
 returns : tie.Need-returns
 returns c =
     let k = c .before .before in
@@ -44,4 +38,4 @@ returns-2 c =
 pub del-master-spec : {M : Type 1} → statement M
 del-master-spec =
     tie.close
-    (tie.spec has-points-requires refused-requires returns del-unpointed-requires returns-2)
+    (tie.spec (λ c κs. search needs) (λ c κs. search needs) returns del-unpointed-requires returns-2)

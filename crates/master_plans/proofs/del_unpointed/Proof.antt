@@ -27,21 +27,6 @@ moves : (c : tie.After-bad-root2) (t : Bool) → (eqb (c .before .before .before
     → synonymMoves (now (c .before .before .before .before .before .args .base)) (c .before .before .before .before .before .args .e) (c .before .before .before .before .before .args .h .0) (c .before .before .before .before .before .args .r .0) ≡ t
 moves c t h = let a = c .before .before .before .before .before .args in move-test (now (a .base)) (a .e) (a .h .0) (a .r .0) (c .before .before .root-next .ensures) h
 
-root-prior-requires : tie.Need-root-prior-requires
-root-prior-requires c κs = search needs
-
-root-next-requires : tie.Need-root-next-requires
-root-next-requires c κs = search needs
-
-bad-root-requires : tie.Need-bad-root-requires
-bad-root-requires c κs = search needs
-
-bad-root-requires-2 : tie.Need-bad-root-requires-2
-bad-root-requires-2 c κs = search needs
-
-refused-requires : tie.Need-refused-requires
-refused-requires c κs = search needs
-
 returns : tie.Need-returns
 returns c =
     let k = c .before .before .before .before in
@@ -105,11 +90,11 @@ pub del-unpointed-spec : {M : Type 1} → statement M
 del-unpointed-spec =
     tie.close
     (tie.spec
-    root-prior-requires
-    root-next-requires
-    bad-root-requires
-    bad-root-requires-2
-    refused-requires
+    (λ c κs. search needs)
+    (λ c κs. search needs)
+    (λ c κs. search needs)
+    (λ c κs. search needs)
+    (λ c κs. search needs)
     returns
     del-by-move-requires
     returns-2

@@ -16,27 +16,15 @@ Inv-loop base e n r x count ok₀ j₀ ok j = (j ≤ x .count) × (ok ≡ allBel
 abbrev μ-loop : tie.MeasureT-loop
 μ-loop base e n r x count ok₀ j₀ ok j = count - j
 
-cast-count : tie.Need-cast-count Inv-loop μ-loop
-cast-count c = search needs
-
 loop-holds : tie.Need-loop-holds Inv-loop μ-loop
 unfolding allBelow
 loop-holds c = search needs
-
-path-of-requires : tie.Need-path-of-requires Inv-loop μ-loop
-path-of-requires c κs = search needs
 
 empty-on-requires : tie.Need-empty-on-requires Inv-loop μ-loop
 empty-on-requires c κs =
     let l = c .before .before in
     let s = l .before .before .before in
     (s .pre .0, (s .pre .1 .0, rw (c .path-of .ensures) (s .pre .1 .1 .1 (l .loop .j) (search needs))))
-
-add-j : tie.Need-add-j Inv-loop μ-loop
-add-j c = search needs
-
-loop-less : tie.Need-loop-less Inv-loop μ-loop
-loop-less c = search needs
 
 loop-again : tie.Need-loop-again Inv-loop μ-loop
 loop-again c =
@@ -60,11 +48,11 @@ empty-in-spec =
     (tie.spec
     Inv-loop
     μ-loop
-    cast-count
+    (λ c. search needs)
     loop-holds
-    path-of-requires
+    (λ c κs. search needs)
     empty-on-requires
-    add-j
-    loop-less
+    (λ c. search needs)
+    (λ c. search needs)
     loop-again
     returns)

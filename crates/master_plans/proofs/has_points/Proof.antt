@@ -20,15 +20,9 @@ Inv-loop base t n e r sets ok₀ i₀ ok i = (i ≤ setCount t) × (ok ≡ allBe
 abbrev μ-loop : tie.MeasureT-loop
 μ-loop base t n e r sets ok₀ i₀ ok i = sets - i
 
-add-sets : tie.Need-add-sets Inv-loop μ-loop
-add-sets c = search needs
-
 loop-holds : tie.Need-loop-holds Inv-loop μ-loop
 unfolding allBelow
 loop-holds c = search needs
-
-entry-of-requires : tie.Need-entry-of-requires Inv-loop μ-loop
-entry-of-requires c κs = search needs
 
 empty-in-requires : tie.Need-empty-in-requires Inv-loop μ-loop
 empty-in-requires c κs =
@@ -44,12 +38,6 @@ empty-in-requires c κs =
         (rw (c .entry-of .ensures) (paths-few ok (l .loop .i) i), rw (c .entry-of .ensures, s .pre .1 .1 .1 .0) (path-link-inside ok (a .n .0) (l .loop .i) k i)),
       ),
     )
-
-add-i : tie.Need-add-i Inv-loop μ-loop
-add-i c = search needs
-
-loop-less : tie.Need-loop-less Inv-loop μ-loop
-loop-less c = search needs
 
 loop-again : tie.Need-loop-again Inv-loop μ-loop
 loop-again c =
@@ -75,11 +63,11 @@ has-points-spec =
     (tie.spec
     Inv-loop
     μ-loop
-    add-sets
+    (λ c. search needs)
     loop-holds
-    entry-of-requires
+    (λ c κs. search needs)
     empty-in-requires
-    add-i
-    loop-less
+    (λ c. search needs)
+    (λ c. search needs)
     loop-again
     returns)

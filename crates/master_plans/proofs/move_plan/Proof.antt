@@ -4,17 +4,8 @@ use borrow.Author.Needs.{needs}
 use Rattle.master_plans.proofs.move_plan.Statement.{statement}
 use Rattle.master_plans.proofs.move_plan.Tie as tie
 
-start-requires : tie.Need-start-requires
-start-requires c κs = search needs
-
-root-side-requires : tie.Need-root-side-requires
-root-side-requires c κs = search needs
-
-with-wiped-requires : tie.Need-with-wiped-requires
-with-wiped-requires c κs = search needs
-
 returns : tie.Need-returns
 returns c = shaped-wiped (shaped-longer (c .before .before .start .ensures) (c .before .root-side .ensures)) (c .with-wiped .ensures)
 
 pub move-plan-spec : {M : Type 1} → statement M
-move-plan-spec = tie.close (tie.spec start-requires root-side-requires with-wiped-requires returns)
+move-plan-spec = tie.close (tie.spec (λ c κs. search needs) (λ c κs. search needs) (λ c κs. search needs) returns)

@@ -9,15 +9,6 @@ use Rattle.master_plans.proofs.root_side.Tie as tie
 returns : tie.Need-returns
 returns c = let a = c .before .args in one-longer-none (a .p) (a .e) (a .r) (a .o) (a .v) (c .if1 .taken)
 
-part-of-requires : tie.Need-part-of-requires
-part-of-requires c κs = search needs
-
-of-requires : tie.Need-of-requires
-of-requires c κs = search needs
-
-with-word-requires : tie.Need-with-word-requires
-with-word-requires c κs = search needs
-
 returns-2 : tie.Need-returns-2
 returns-2 c =
     let k = c .before in
@@ -37,4 +28,4 @@ returns-2 c =
 
 pub root-side-spec : {M : Type 1} → statement M
 root-side-spec =
-    tie.close (tie.spec returns part-of-requires of-requires with-word-requires returns-2)
+    tie.close (tie.spec returns (λ c κs. search needs) (λ c κs. search needs) (λ c κs. search needs) returns-2)

@@ -6,16 +6,10 @@ use Rattle.plans.specs.Stores.{wordStores}
 use Rattle.master_plans.proofs.start.Statement.{statement}
 use Rattle.master_plans.proofs.start.Tie as tie
 
-array-set-from-links : tie.Need-array-set-from-links
-array-set-from-links c = search needs
-
-of-requires : tie.Need-of-requires
-of-requires c κs = search needs
-
 returns : tie.Need-returns
 unfolding wordStores
 returns c =
     rw (c .of .ensures) (record { head = refl; target = refl; other = refl; links = refl; few = omega arith; words = refl; records = tt; wiped = refl })
 
 pub start-spec : {M : Type 1} → statement M
-start-spec = tie.close (tie.spec array-set-from-links of-requires returns)
+start-spec = tie.close (tie.spec (λ c. search needs) (λ c κs. search needs) returns)

@@ -4,14 +4,8 @@ use borrow.Author.Needs.{needs}
 use Rattle.master_plans.proofs.synonym_plan.Statement.{statement}
 use Rattle.master_plans.proofs.synonym_plan.Tie as tie
 
-start-requires : tie.Need-start-requires
-start-requires c κs = search needs
-
-root-side-requires : tie.Need-root-side-requires
-root-side-requires c κs = search needs
-
 returns : tie.Need-returns
 returns c = shaped-longer (c .before .start .ensures) (c .root-side .ensures)
 
 pub synonym-plan-spec : {M : Type 1} → statement M
-synonym-plan-spec = tie.close (tie.spec start-requires root-side-requires returns)
+synonym-plan-spec = tie.close (tie.spec (λ c κs. search needs) (λ c κs. search needs) returns)

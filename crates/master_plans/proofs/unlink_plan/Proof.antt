@@ -4,18 +4,6 @@ use borrow.Author.Needs.{needs}
 use Rattle.master_plans.proofs.unlink_plan.Statement.{statement}
 use Rattle.master_plans.proofs.unlink_plan.Tie as tie
 
-start-requires : tie.Need-start-requires
-start-requires c κs = search needs
-
-root-side-requires : tie.Need-root-side-requires
-root-side-requires c κs = search needs
-
-root-side-requires-2 : tie.Need-root-side-requires-2
-root-side-requires-2 c κs = search needs
-
-with-wiped-requires : tie.Need-with-wiped-requires
-with-wiped-requires c κs = search needs
-
 returns : tie.Need-returns
 returns c =
     let k = c .before .before in
@@ -24,4 +12,4 @@ returns c =
 pub unlink-plan-spec : {M : Type 1} → statement M
 unlink-plan-spec =
     tie.close
-    (tie.spec start-requires root-side-requires root-side-requires-2 with-wiped-requires returns)
+    (tie.spec (λ c κs. search needs) (λ c κs. search needs) (λ c κs. search needs) (λ c κs. search needs) returns)

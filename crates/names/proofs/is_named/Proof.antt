@@ -14,12 +14,6 @@ returns c =
     let s = c .before .before in
     sym (other-length _ (s .args .p .letters) (now (s .args .name)) (s .pre .letters) (c .if1 .taken))
 
-entry-of-requires : tie.Need-entry-of-requires
-entry-of-requires c κs = search needs
-
-word-requires : tie.Need-word-requires
-word-requires c κs = search needs
-
 returns-2 : tie.Need-returns-2
 returns-2 c =
     let x = c .before .before in
@@ -27,12 +21,6 @@ returns-2 c =
     let l : x .entry-of .result .name < 4294967296 = search needs in
     sym (rw (x .entry-of .ensures) at
     (other-master-name (x .entry-of .result .name) (s .args .p .letters) (now (s .args .name)) l (λ e. c .if2 .taken (e ∙ sym (c .before .word .ensures)))))
-
-reference-requires : tie.Need-reference-requires
-reference-requires c κs = search needs
-
-word-requires-2 : tie.Need-word-requires-2
-word-requires-2 c κs = search needs
 
 returns-3 : tie.Need-returns-3
 returns-3 c =
@@ -51,9 +39,9 @@ is-named-spec =
     tie.close
     (tie.spec
     returns
-    entry-of-requires
-    word-requires
+    (λ c κs. search needs)
+    (λ c κs. search needs)
     returns-2
-    reference-requires
-    word-requires-2
+    (λ c κs. search needs)
+    (λ c κs. search needs)
     returns-3)

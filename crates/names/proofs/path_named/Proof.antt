@@ -33,15 +33,9 @@ Test l = isNamed (l .before .before .before .args .t) (l .before .before .before
 told : (c : tie.After-is-named Inv-loop μ-loop) → Test (c .before .before .before) (c .before .before .before .loop .j) ≡ c .is-named .result
 told c = rw (c .before .path-of .ensures) at (sym (c .is-named .ensures))
 
-cast-n : tie.Need-cast-n Inv-loop μ-loop
-cast-n c = search needs
-
 loop-holds : tie.Need-loop-holds Inv-loop μ-loop
 unfolding pathNamed
 loop-holds c = (search needs, rw sub-zero refl)
-
-path-of-requires : tie.Need-path-of-requires Inv-loop μ-loop
-path-of-requires c κs = search needs
 
 is-named-requires : tie.Need-is-named-requires Inv-loop μ-loop
 is-named-requires c κs =
@@ -53,12 +47,6 @@ returns c =
     let l = c .before .before .before .before in
     let n = l .before .before .before .args .e .count in
     sym (lowestFrom-hit (Test l) (n - l .loop .j) (n - l .loop .j - 1) (l .loop .j) (omega arith) (told (c .before) ∙ c .if1 .taken)) ∙ l .loop .inv .1
-
-add-j : tie.Need-add-j Inv-loop μ-loop
-add-j c = search needs
-
-loop-less : tie.Need-loop-less Inv-loop μ-loop
-loop-less c = search needs
 
 loop-again : tie.Need-loop-again Inv-loop μ-loop
 loop-again c =
@@ -80,12 +68,12 @@ path-named-spec =
     (tie.spec
     Inv-loop
     μ-loop
-    cast-n
+    (λ c. search needs)
     loop-holds
-    path-of-requires
+    (λ c κs. search needs)
     is-named-requires
     returns
-    add-j
-    loop-less
+    (λ c. search needs)
+    (λ c. search needs)
     loop-again
     returns-2)

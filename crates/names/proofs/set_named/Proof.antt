@@ -4,15 +4,9 @@ use borrow.Author.Needs.{needs}
 use Rattle.names.proofs.set_named.Statement.{statement}
 use Rattle.names.proofs.set_named.Tie as tie
 
-word-requires : tie.Need-word-requires
-word-requires c κs = search needs
-
-set-of-requires : tie.Need-set-of-requires
-set-of-requires c κs = search needs
-
 returns : tie.Need-returns
 unfolding setNamed
 returns c = rw (c .before .word .ensures) at (c .set-of .ensures)
 
 pub set-named-spec : {M : Type 1} → statement M
-set-named-spec = tie.close (tie.spec word-requires set-of-requires returns)
+set-named-spec = tie.close (tie.spec (λ c κs. search needs) (λ c κs. search needs) returns)

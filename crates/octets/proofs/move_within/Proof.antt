@@ -19,24 +19,6 @@ loop-holds : tie.Need-loop-holds Inv-loop μ-loop
 unfolding splice
 loop-holds c = (omega arith, refl, refl)
 
-add-s : tie.Need-add-s Inv-loop μ-loop
-add-s c = search needs
-
-slice-read-s : tie.Need-slice-read-s Inv-loop μ-loop
-slice-read-s c = search needs
-
-add-s-2 : tie.Need-add-s-2 Inv-loop μ-loop
-add-s-2 c = search needs
-
-slice-write-s : tie.Need-slice-write-s Inv-loop μ-loop
-slice-write-s c = search needs
-
-add-i : tie.Need-add-i Inv-loop μ-loop
-add-i c = search needs
-
-loop-less : tie.Need-loop-less Inv-loop μ-loop
-loop-less c = search needs
-
 loop-again : tie.Need-loop-again Inv-loop μ-loop
 loop-again c =
     let l = c .before .before in
@@ -58,12 +40,12 @@ move-within-spec =
     Inv-loop
     μ-loop
     loop-holds
-    add-s
-    slice-read-s
-    add-s-2
-    slice-write-s
-    add-i
-    loop-less
+    (λ c. search needs)
+    (λ c. search needs)
+    (λ c. search needs)
+    (λ c. search needs)
+    (λ c. search needs)
+    (λ c. search needs)
     loop-again
     same-length
     returns)

@@ -16,24 +16,6 @@ Inv-loop s from sum₀ i₀ sum i = (i ≤ length s) × (sumOnto sum (drop i s) 
 abbrev μ-loop : tie.MeasureT-loop
 μ-loop s from sum₀ i₀ sum i = length s - i
 
-loop-holds : tie.Need-loop-holds Inv-loop μ-loop
-loop-holds c = search needs
-
-sub-loop : tie.Need-sub-loop Inv-loop μ-loop
-sub-loop c = search needs
-
-word-requires : tie.Need-word-requires Inv-loop μ-loop
-word-requires c κs = search needs
-
-wrapping-add-u32-requires : tie.Need-wrapping-add-u32-requires Inv-loop μ-loop
-wrapping-add-u32-requires c κs = search needs
-
-add-i : tie.Need-add-i Inv-loop μ-loop
-add-i c = search needs
-
-loop-less : tie.Need-loop-less Inv-loop μ-loop
-loop-less c = search needs
-
 loop-again : tie.Need-loop-again Inv-loop μ-loop
 loop-again c =
     let l = c .before .before .before in
@@ -50,11 +32,11 @@ word-sum-spec =
     (tie.spec
     Inv-loop
     μ-loop
-    loop-holds
-    sub-loop
-    word-requires
-    wrapping-add-u32-requires
-    add-i
-    loop-less
+    (λ c. search needs)
+    (λ c. search needs)
+    (λ c κs. search needs)
+    (λ c κs. search needs)
+    (λ c. search needs)
+    (λ c. search needs)
     loop-again
     returns)

@@ -19,18 +19,6 @@ loop-holds : tie.Need-loop-holds Inv-loop μ-loop
 unfolding splice
 loop-holds c = (omega arith, refl, refl)
 
-add-dst : tie.Need-add-dst Inv-loop μ-loop
-add-dst c = search needs
-
-slice-write-dst : tie.Need-slice-write-dst Inv-loop μ-loop
-slice-write-dst c = search needs
-
-add-i : tie.Need-add-i Inv-loop μ-loop
-add-i c = search needs
-
-loop-less : tie.Need-loop-less Inv-loop μ-loop
-loop-less c = search needs
-
 loop-again : tie.Need-loop-again Inv-loop μ-loop
 loop-again c =
     let h = c .before .loop .inv in
@@ -51,10 +39,10 @@ zero-spec =
     Inv-loop
     μ-loop
     loop-holds
-    add-dst
-    slice-write-dst
-    add-i
-    loop-less
+    (λ c. search needs)
+    (λ c. search needs)
+    (λ c. search needs)
+    (λ c. search needs)
     loop-again
     same-length
     returns)

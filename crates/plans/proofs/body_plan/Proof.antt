@@ -3,11 +3,8 @@ use borrow.Author.Needs.{needs}
 use Rattle.plans.proofs.body_plan.Statement.{statement}
 use Rattle.plans.proofs.body_plan.Tie as tie
 
-of-requires : tie.Need-of-requires
-of-requires c κs = search needs
-
 returns : tie.Need-returns
 returns c = cc
 
 pub body-plan-spec : {M : Type 1} → statement M
-body-plan-spec = tie.close (tie.spec of-requires returns)
+body-plan-spec = tie.close (tie.spec (λ c κs. search needs) returns)

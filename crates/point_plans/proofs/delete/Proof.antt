@@ -11,16 +11,19 @@ use borrow.Author.Tests.{ne-eqb}
 use Rattle.terms.specs.Laws.{status-number-one}
 use Rattle.terms.specs.declared.Status.the-variants.{Done, Damg}
 use Rattle.terms.specs.Status.{statusNumber}
-use Rattle.schema.specs.Decode.{pathOf}
+use Rattle.schema.specs.declared.Schema.{Schema}
+use Rattle.schema.specs.Decode.{pathOf, mastersOn}
 use Rattle.schema.specs.Place.{recordOf}
 use Rattle.schema.specs.PlaceLaws.{record-length}
-use Rattle.points.specs.Points.{findOn, ownKey}
+use Rattle.records.specs.Records.{keyOn}
+use Rattle.records.specs.InBase.{mastersKept, MastersOf}
+use Rattle.masters.specs.Find.{find}
 use Rattle.point_plans.specs.Rest.{otherMasters}
 use Rattle.point_plans.specs.Paths.{keyAt, ownLinks, damaged}
 use Rattle.point_plans.specs.WithinLaws.{record-keys-in, record-key}
 use Rattle.point_plans.specs.Within.{KeysIn}
 use Rattle.point_plans.specs.PathLaws.{others-same, filled-at}
-use Rattle.point_plans.specs.SideLaws.{Known, known-of, owners-in}
+use Rattle.point_plans.specs.SideLaws.{Known, known-of, known-by-schema, owners-in}
 use Rattle.point_plans.specs.CallLaws.{del-refused, del-answer}
 use Rattle.point_plans.proofs.delete.Statement.{statement}
 use Rattle.point_plans.proofs.delete.Tie as tie
@@ -36,7 +39,7 @@ places d =
     filled-at (λ k. pathOf (a .e) k .at) (d .record-places .result) (a .e .count) 0 (d .record-places .ensures .0)
 
 abbrev own : tie.Start → ℕ → List ℕ
-own s = ownKey (now (s .args .base)) (s .args .t) (s .args .e) (s .args .r .0)
+own s k = keyOn (now (s .args .base)) (s .args .e) (s .args .r .0) (pathOf (s .args .e) k)
 
 keys : (d : tie.After-record-places) (k : ℕ) → k < start d .args .e .count → keyAt (now (d .before .record-of .result)) (start d .args .e) (d .record-places .result) k ≡ own (start d) k
 keys d k l =
@@ -63,30 +66,35 @@ asked o =
     ∙ ap (λ (part : List ℕ). cond (damaged (now (a .base)) (a .e) part (d .record-places .result) (o .before .before .before .before .all-owners .result .parts) (ownLinks (now (a .base)) (a .e) (a .r .0))) Damg Done)
     (d .before .record-of .ensures)
 
--- what the search answers
-others : (o : tie.After-all-owners) → (let s = start (o .before) in let a = s .args in o .all-owners .result .status ≡ otherMasters (now (a .base)) (a .t) (a .e) (a .on) Damg (own s) (a .e .count))
+-- what the search answers, among the masters that are handed down and under every schema that has them
+others : (o : tie.After-all-owners)
+    → (let s = start (o .before) in let a = s .args in
+    o .all-owners .result .status ≡ otherMasters (now (a .base)) (mastersKept (a .masters)) (a .named .on) Damg (own s) (a .e .count))
 others o =
     let s = start (o .before) in
     let a = s .args in
-    o .all-owners .ensures .0 ∙ others-same (now (a .base)) (a .t) (a .e) (a .on) Damg _ (own s) (a .e .count) (keys (o .before))
+    o .all-owners .ensures .0
+    ∙ others-same (now (a .base)) (mastersKept (a .masters)) (mastersKept (a .masters)) (a .named .on) Damg _ (own s) (a .e .count) (λ k l. refl) (keys (o .before))
+
+others-under : (o : tie.After-all-owners) (t : Schema)
+    → (let s = start (o .before) in let a = s .args in MastersOf t (a .e) (a .masters)
+    → o .all-owners .result .status ≡ otherMasters (now (a .base)) (mastersOn t (a .e)) (a .named .on) Damg (own s) (a .e .count))
+others-under o t of =
+    let s = start (o .before) in
+    let a = s .args in
+    others o ∙ others-same (now (a .base)) (mastersKept (a .masters)) (mastersOn t (a .e)) (a .named .on) Damg _ (own s) (a .e .count) (of .same) (λ k l. refl)
 
 done : (n : tie.After-number) → n .number .result ≡ 0 → n .before .all-owners .result .status ≡ Done
 done n z = status-number-one _ Done (sym (n .number .ensures) ∙ z)
 
 known : (n : tie.After-number) → n .number .result ≡ 0
-    → (let s = start (n .before .before) in let a = s .args in Known (now (a .base)) (a .t) (a .e) (own s) (n .before .all-owners .result .parts))
+    → (let s = start (n .before .before) in let a = s .args in Known (now (a .base)) (mastersKept (a .masters)) (a .e) (own s) (n .before .all-owners .result .parts))
 known n z =
     let o = n .before in
     let s = start (o .before) in
     let a = s .args in
-    known-of (now (a .base)) (a .t) (a .e) (a .on) Damg _ (own s) _ (a .m) (s .pre .0) (keys (o .before)) refl (sym (others o) ∙ done n z)
+    known-of (now (a .base)) (a .e) (a .masters) (a .named .on) Damg _ (own s) _ (a .named .master) (s .pre .0) (keys (o .before)) refl (sym (others o) ∙ done n z)
     (s .pre .1 .1 .1) (o .all-owners .ensures .1 .0 (done n z))
-
-record-of-requires : tie.Need-record-of-requires
-record-of-requires c κs = search needs
-
-record-places-requires : tie.Need-record-places-requires
-record-places-requires c κs = search needs
 
 all-owners-requires : tie.Need-all-owners-requires
 all-owners-requires c κs =
@@ -95,15 +103,9 @@ all-owners-requires c κs =
       s .pre .0,
       (
         inside c,
-        ap (findOn (now (a .base)) (a .t) (a .e) (a .on)) (keys c (a .on) (s .pre .1 .1 .0)) ∙ s .pre .1 .1 .1,
+        ap (find (now (a .base)) (mastersKept (a .masters) (a .named .on))) (keys c (a .named .on) (s .pre .1 .1 .0)) ∙ s .pre .1 .1 .1,
       ),
     )
-
-number-requires : tie.Need-number-requires
-number-requires c κs = search needs
-
-refused-requires : tie.Need-refused-requires
-refused-requires c κs = search needs
 
 returns : tie.Need-returns
 returns c =
@@ -111,8 +113,12 @@ returns c =
     let o = n .before in
     let a = start (o .before) .args in
     let some : statusNumber (o .all-owners .result .status) ≡ 0 → ⊥ = λ z. c .before .if1 .taken (n .number .ensures ∙ z) in (
-      refused-status (c .refused .ensures) ∙ del-refused (now (a .base)) (a .t) (a .e) (a .r .0) (a .on) (others o) (ne-eqb (statusNumber (o .all-owners .result .status)) 0 some),
-      (λ z. absurd (some (ap statusNumber (sym (refused-status (c .refused .ensures)) ∙ z))), refused-none (c .refused .ensures)),
+      λ t of. (
+        refused-status (c .refused .ensures)
+            ∙ del-refused (now (a .base)) t (a .e) (a .r .0) (a .named .on) (others-under o t of) (ne-eqb (statusNumber (o .all-owners .result .status)) 0 some),
+        λ z. absurd (some (ap statusNumber (sym (refused-status (c .refused .ensures)) ∙ z))),
+      ),
+      refused-none (c .refused .ensures),
     )
 
 delete-known-requires : tie.Need-delete-known-requires
@@ -124,7 +130,7 @@ delete-known-requires c κs =
       s .pre .0 .points,
       (
         inside d,
-        (owners-in (now (a .base)) (a .t) (a .e) (own s) _ (known n (c .before .if1 .left)), s .pre .1 .0),
+        (owners-in (now (a .base)) (mastersKept (a .masters)) (a .e) (own s) _ (known n (c .before .if1 .left)), s .pre .1 .0),
       ),
     )
 
@@ -134,19 +140,22 @@ returns-2 c =
     let d = n .before .before in
     let s = start d in
     let a = s .args in
-    let w = del-answer (now (a .base)) (a .t) (a .e) (a .r .0) _ (known n (c .before .before .if1 .left)) _ (a .on) (c .delete-known .result) (places d) (s .pre .1 .0)
-    (sym (others (n .before)) ∙ done n (c .before .before .if1 .left)) (asked c) (c .delete-known .ensures .1 .0) in
-    (w .0, (w .1, c .delete-known .ensures .1 .1))
+    let z = c .before .before .if1 .left in (
+      λ t of.
+          del-answer (now (a .base)) t (a .e) (a .r .0) _ (known-by-schema _ t _ _ _ _ of (known n z)) _ (a .named .on) (c .delete-known .result) (places d) (s .pre .1 .0)
+          (sym (others-under (n .before) t of) ∙ done n z) (asked c) (c .delete-known .ensures .1 .0),
+      c .delete-known .ensures .1 .1,
+    )
 
 pub delete-spec : {M : Type 1} → statement M
 delete-spec =
     tie.close
     (tie.spec
-    record-of-requires
-    record-places-requires
+    (λ c κs. search needs)
+    (λ c κs. search needs)
     all-owners-requires
-    number-requires
-    refused-requires
+    (λ c κs. search needs)
+    (λ c κs. search needs)
     returns
     delete-known-requires
     returns-2)

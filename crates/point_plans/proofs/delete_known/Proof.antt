@@ -22,15 +22,6 @@ asked d =
     let a = start d .args in
     sym (d .any-damaged .ensures ∙ damaged-taken (now (a .base)) (a .e) (now (a .part)) (a .at) (a .owners) _ ∙ ap (damaged (now (a .base)) (a .e) (now (a .part)) (a .at) (a .owners)) (d .before .own-links .ensures .0))
 
-own-links-requires : tie.Need-own-links-requires
-own-links-requires c κs = search needs
-
-any-damaged-requires : tie.Need-any-damaged-requires
-any-damaged-requires c κs = search needs
-
-refused-requires : tie.Need-refused-requires
-refused-requires c κs = search needs
-
 returns : tie.Need-returns
 returns c =
     let d = c .before .before in
@@ -54,9 +45,9 @@ pub delete-known-spec : {M : Type 1} → statement M
 delete-known-spec =
     tie.close
     (tie.spec
-    own-links-requires
-    any-damaged-requires
-    refused-requires
+    (λ c κs. search needs)
+    (λ c κs. search needs)
+    (λ c κs. search needs)
     returns
     unlinked-plan-requires
     returns-2)

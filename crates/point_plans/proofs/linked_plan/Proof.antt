@@ -8,9 +8,6 @@ use Rattle.point_plans.specs.PlanLaws.{built, both-same}
 use Rattle.point_plans.proofs.linked_plan.Statement.{statement}
 use Rattle.point_plans.proofs.linked_plan.Tie as tie
 
-of-requires : tie.Need-of-requires
-of-requires c κs = search needs
-
 with-sides-requires : tie.Need-with-sides-requires
 with-sides-requires c κs = (rw (c .of .ensures) refl, c .before .pre)
 
@@ -21,4 +18,4 @@ returns c =
     built (a .e) (a .owners) (a .links) (replicate 4 (both (a .r))) (bothOn (a .e) (a .r)) Variable (record { 0 = a .r }) _ _ (c .before .of .ensures) (c .with-sides .ensures) (both-same (a .e) (a .r) (s .pre .0 .few))
 
 pub linked-plan-spec : {M : Type 1} → statement M
-linked-plan-spec = tie.close (tie.spec of-requires with-sides-requires returns)
+linked-plan-spec = tie.close (tie.spec (λ c κs. search needs) with-sides-requires returns)

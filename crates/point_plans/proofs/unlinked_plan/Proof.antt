@@ -9,14 +9,8 @@ use Rattle.point_plans.specs.PlanLaws.{built, built-wiped}
 use Rattle.point_plans.proofs.unlinked_plan.Statement.{statement}
 use Rattle.point_plans.proofs.unlinked_plan.Tie as tie
 
-of-requires : tie.Need-of-requires
-of-requires c κs = search needs
-
 with-sides-requires : tie.Need-with-sides-requires
 with-sides-requires c κs = (rw (c .of .ensures) refl, c .before .pre)
-
-with-wiped-requires : tie.Need-with-wiped-requires
-with-wiped-requires c κs = search needs
 
 returns : tie.Need-returns
 returns c =
@@ -29,4 +23,4 @@ returns c =
 
 pub unlinked-plan-spec : {M : Type 1} → statement M
 unlinked-plan-spec =
-    tie.close (tie.spec of-requires with-sides-requires with-wiped-requires returns)
+    tie.close (tie.spec (λ c κs. search needs) with-sides-requires (λ c κs. search needs) returns)

@@ -3,23 +3,8 @@ use borrow.Author.Needs.{needs}
 use Rattle.probes.proofs.place_under.Statement.{statement}
 use Rattle.probes.proofs.place_under.Tie as tie
 
-cast-sets : tie.Need-cast-sets
-cast-sets c = search needs
-
-cast-sets-2 : tie.Need-cast-sets-2
-cast-sets-2 c = search needs
-
-add-sets : tie.Need-add-sets
-add-sets c = search needs
-
 returns : tie.Need-returns
 returns c = under-none _ _ _ (c .if1 .taken)
-
-cast-t9 : tie.Need-cast-t9
-cast-t9 c = search needs
-
-entry-of-requires : tie.Need-entry-of-requires
-entry-of-requires c κs = search needs
 
 place-in-set-requires : tie.Need-place-in-set-requires
 place-in-set-requires c κs = lies-found _ _ (c .before .before .before .before .pre) (c .before .if1 .left) (c .entry-of .ensures)
@@ -31,11 +16,11 @@ pub place-under-spec : {M : Type 1} → statement M
 place-under-spec =
     tie.close
     (tie.spec
-    cast-sets
-    cast-sets-2
-    add-sets
+    (λ c. search needs)
+    (λ c. search needs)
+    (λ c. search needs)
     returns
-    cast-t9
-    entry-of-requires
+    (λ c. search needs)
+    (λ c κs. search needs)
     place-in-set-requires
     returns-2)

@@ -4,9 +4,6 @@ use borrow.Author.Needs.{needs}
 use Rattle.probes.proofs.yarugota_record_place.Statement.{statement}
 use Rattle.probes.proofs.yarugota_record_place.Tie as tie
 
-decode-requires : tie.Need-decode-requires
-decode-requires c κs = search needs
-
 place-under-requires : tie.Need-place-under-requires
 place-under-requires c κs = decoded-good _ (c .before .before .decode .ensures) (c .before .if1 .taken)
 
@@ -18,4 +15,4 @@ returns-2 c = place-none _ (c .before .decode .ensures) _ _ (c .if1 .left)
 
 pub yarugota-record-place-spec : {M : Type 1} → statement M
 yarugota-record-place-spec =
-    tie.close (tie.spec decode-requires place-under-requires returns returns-2)
+    tie.close (tie.spec (λ c κs. search needs) place-under-requires returns returns-2)

@@ -19,15 +19,6 @@ loop-holds : tie.Need-loop-holds Inv-loop μ-loop
 unfolding allBelow
 loop-holds c = search needs
 
-entry-requires : tie.Need-entry-requires Inv-loop μ-loop
-entry-requires c κs = search needs
-
-add-i : tie.Need-add-i Inv-loop μ-loop
-add-i c = search needs
-
-loop-less : tie.Need-loop-less Inv-loop μ-loop
-loop-less c = search needs
-
 loop-again : tie.Need-loop-again Inv-loop μ-loop
 loop-again c =
     let l = c .before .before in
@@ -41,4 +32,4 @@ returns c =
 pub entries-spec : {M : Type 1} → statement M
 entries-spec =
     tie.close
-    (tie.spec Inv-loop μ-loop loop-holds entry-requires add-i loop-less loop-again returns)
+    (tie.spec Inv-loop μ-loop loop-holds (λ c κs. search needs) (λ c. search needs) (λ c. search needs) loop-again returns)

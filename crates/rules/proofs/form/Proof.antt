@@ -8,12 +8,6 @@ use Rattle.rules.proofs.form.Statement.{statement}
 returns : tie.Need-returns
 returns c = form-short (now (c .before .before .args .s)) (c .if1 .taken)
 
-sealed-requires : tie.Need-sealed-requires
-sealed-requires c κs = search needs
-
-head-requires : tie.Need-head-requires
-head-requires c κs = search needs
-
 returns-2 : tie.Need-returns-2
 returns-2 c = form-refused (now (c .before .before .before .before .before .args .s)) (c .before .before .sealed .ensures) (c .before .head .ensures) (c .before .before .before .if1 .left) (c .if2 .taken)
 
@@ -27,4 +21,4 @@ returns-3 c =
 
 pub form-spec : {M : Type 1} → statement M
 form-spec =
-    tie.close (tie.spec returns sealed-requires head-requires returns-2 body-requires returns-3)
+    tie.close (tie.spec returns (λ c κs. search needs) (λ c κs. search needs) returns-2 body-requires returns-3)

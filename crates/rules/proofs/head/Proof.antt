@@ -4,18 +4,6 @@ use borrow.Author.Needs.{needs}
 use Rattle.rules.proofs.head.Tie as tie
 use Rattle.rules.proofs.head.Statement.{statement}
 
-shared-slice-read-m : tie.Need-shared-slice-read-m
-shared-slice-read-m c = search needs
-
-shared-slice-read-result : tie.Need-shared-slice-read-result
-shared-slice-read-result c = search needs
-
-shared-slice-read-result-2 : tie.Need-shared-slice-read-result-2
-shared-slice-read-result-2 c = search needs
-
-zeros-requires : tie.Need-zeros-requires
-zeros-requires c κs = search needs
-
 returns : tie.Need-returns
 unfolding headRule
 returns c = cc
@@ -24,8 +12,8 @@ pub head-spec : {M : Type 1} → statement M
 head-spec =
     tie.close
     (tie.spec
-    shared-slice-read-m
-    shared-slice-read-result
-    shared-slice-read-result-2
-    zeros-requires
+    (λ c. search needs)
+    (λ c. search needs)
+    (λ c. search needs)
+    (λ c κs. search needs)
     returns)

@@ -4,21 +4,12 @@ use borrow.Author.Needs.{needs}
 use Rattle.rules.proofs.kind.Tie as tie
 use Rattle.rules.proofs.kind.Statement.{statement}
 
-masters-requires : tie.Need-masters-requires
-masters-requires c κs = search needs
-
-master-requires : tie.Need-master-requires
-master-requires c κs = search needs
-
 returns : tie.Need-returns
 returns c = rw (lt-ltb _ _ (rw (c .before .before .masters .ensures) at (c .before .if1 .taken))) (c .master .ensures)
-
-variable-requires : tie.Need-variable-requires
-variable-requires c κs = search needs
 
 returns-2 : tie.Need-returns-2
 returns-2 c = rw (le-ltb _ _ (rw (c .before .before .masters .ensures) at (c .before .if1 .left))) (c .variable .ensures)
 
 pub kind-spec : {M : Type 1} → statement M
 kind-spec =
-    tie.close (tie.spec masters-requires master-requires returns variable-requires returns-2)
+    tie.close (tie.spec (λ c κs. search needs) (λ c κs. search needs) returns (λ c κs. search needs) returns-2)

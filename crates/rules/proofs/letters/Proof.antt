@@ -16,24 +16,9 @@ Inv-loop s slots ok₀ q₀ ok q = (q ≤ slots) × (ok ≡ allBelow (λ n. allB
 abbrev μ-loop : tie.MeasureT-loop
 μ-loop s slots ok₀ q₀ ok q = slots - q
 
-sets-requires : tie.Need-sets-requires Inv-loop μ-loop
-sets-requires c κs = search needs
-
-mul-slots : tie.Need-mul-slots Inv-loop μ-loop
-mul-slots c = search needs
-
 loop-holds : tie.Need-loop-holds Inv-loop μ-loop
 unfolding allBelow
 loop-holds c = search needs
-
-new-letters-requires : tie.Need-new-letters-requires Inv-loop μ-loop
-new-letters-requires c κs = search needs
-
-add-q : tie.Need-add-q Inv-loop μ-loop
-add-q c = search needs
-
-loop-less : tie.Need-loop-less Inv-loop μ-loop
-loop-less c = search needs
 
 loop-again : tie.Need-loop-again Inv-loop μ-loop
 loop-again c =
@@ -54,11 +39,11 @@ letters-spec =
     (tie.spec
     Inv-loop
     μ-loop
-    sets-requires
-    mul-slots
+    (λ c κs. search needs)
+    (λ c. search needs)
     loop-holds
-    new-letters-requires
-    add-q
-    loop-less
+    (λ c κs. search needs)
+    (λ c. search needs)
+    (λ c. search needs)
     loop-again
     returns)

@@ -16,21 +16,9 @@ Inv-loop s sets ok₀ k₀ ok k = (k ≤ sets) × (ok ≡ allBelow (λ n. allBel
 abbrev μ-loop : tie.MeasureT-loop
 μ-loop s sets ok₀ k₀ ok k = sets - k
 
-sets-requires : tie.Need-sets-requires Inv-loop μ-loop
-sets-requires c κs = search needs
-
 loop-holds : tie.Need-loop-holds Inv-loop μ-loop
 unfolding allBelow
 loop-holds c = search needs
-
-new-name-requires : tie.Need-new-name-requires Inv-loop μ-loop
-new-name-requires c κs = search needs
-
-add-k : tie.Need-add-k Inv-loop μ-loop
-add-k c = search needs
-
-loop-less : tie.Need-loop-less Inv-loop μ-loop
-loop-less c = search needs
 
 loop-again : tie.Need-loop-again Inv-loop μ-loop
 loop-again c =
@@ -51,10 +39,10 @@ names-spec =
     (tie.spec
     Inv-loop
     μ-loop
-    sets-requires
+    (λ c κs. search needs)
     loop-holds
-    new-name-requires
-    add-k
-    loop-less
+    (λ c κs. search needs)
+    (λ c. search needs)
+    (λ c. search needs)
     loop-again
     returns)

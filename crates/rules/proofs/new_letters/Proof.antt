@@ -17,9 +17,6 @@ Inv-loop s q ok₀ p₀ ok p = (p ≤ q) × (ok ≡ allBelow (apart s q) p)
 abbrev μ-loop : tie.MeasureT-loop
 μ-loop s q ok₀ p₀ ok p = q - p
 
-used-requires : tie.Need-used-requires Inv-loop μ-loop
-used-requires c κs = search needs
-
 returns : tie.Need-returns Inv-loop μ-loop
 returns c =
     let a = c .before .before .before .args in
@@ -28,15 +25,6 @@ returns c =
 loop-holds : tie.Need-loop-holds Inv-loop μ-loop
 unfolding allBelow
 loop-holds c = search needs
-
-clashes-requires : tie.Need-clashes-requires Inv-loop μ-loop
-clashes-requires c κs = search needs
-
-add-p : tie.Need-add-p Inv-loop μ-loop
-add-p c = search needs
-
-loop-less : tie.Need-loop-less Inv-loop μ-loop
-loop-less c = search needs
 
 loop-again : tie.Need-loop-again Inv-loop μ-loop
 loop-again c =
@@ -56,11 +44,11 @@ new-letters-spec =
     (tie.spec
     Inv-loop
     μ-loop
-    used-requires
+    (λ c κs. search needs)
     returns
     loop-holds
-    clashes-requires
-    add-p
-    loop-less
+    (λ c κs. search needs)
+    (λ c. search needs)
+    (λ c. search needs)
     loop-again
     returns-2)

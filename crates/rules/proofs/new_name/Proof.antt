@@ -20,27 +20,6 @@ loop-holds : tie.Need-loop-holds Inv-loop μ-loop
 unfolding allBelow
 loop-holds c = search needs
 
-mul-same-run : tie.Need-mul-same-run Inv-loop μ-loop
-mul-same-run c = search needs
-
-add-same-run : tie.Need-add-same-run Inv-loop μ-loop
-add-same-run c = search needs
-
-mul-same-run-2 : tie.Need-mul-same-run-2 Inv-loop μ-loop
-mul-same-run-2 c = search needs
-
-add-same-run-2 : tie.Need-add-same-run-2 Inv-loop μ-loop
-add-same-run-2 c = search needs
-
-same-run-requires : tie.Need-same-run-requires Inv-loop μ-loop
-same-run-requires c κs = search needs
-
-add-i : tie.Need-add-i Inv-loop μ-loop
-add-i c = search needs
-
-loop-less : tie.Need-loop-less Inv-loop μ-loop
-loop-less c = search needs
-
 loop-again : tie.Need-loop-again Inv-loop μ-loop
 loop-again c =
     let l = c .before .before in
@@ -60,12 +39,12 @@ new-name-spec =
     Inv-loop
     μ-loop
     loop-holds
-    mul-same-run
-    add-same-run
-    mul-same-run-2
-    add-same-run-2
-    same-run-requires
-    add-i
-    loop-less
+    (λ c. search needs)
+    (λ c. search needs)
+    (λ c. search needs)
+    (λ c. search needs)
+    (λ c κs. search needs)
+    (λ c. search needs)
+    (λ c. search needs)
     loop-again
     returns)

@@ -4,12 +4,9 @@ use borrow.Author.Needs.{needs}
 use Rattle.rules.proofs.rest.Tie as tie
 use Rattle.rules.proofs.rest.Statement.{statement}
 
-zeros-requires : tie.Need-zeros-requires
-zeros-requires c κs = search needs
-
 returns : tie.Need-returns
 unfolding restRule
 returns c = cc
 
 pub rest-spec : {M : Type 1} → statement M
-rest-spec = tie.close (tie.spec zeros-requires returns)
+rest-spec = tie.close (tie.spec (λ c κs. search needs) returns)

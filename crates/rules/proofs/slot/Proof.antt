@@ -5,33 +5,9 @@ use borrow.Author.Needs.{needs}
 use Rattle.rules.proofs.slot.Tie as tie
 use Rattle.rules.proofs.slot.Statement.{statement}
 
-paths-requires : tie.Need-paths-requires
-paths-requires c κs = search needs
-
-path-requires : tie.Need-path-requires
-path-requires c κs = search needs
-
 returns : tie.Need-returns
 unfolding slotRule
 returns c = rw (lt-ltb _ _ (rw (c .before .before .paths .ensures) at (c .before .if1 .taken))) (c .path .ensures)
-
-mul-zeros : tie.Need-mul-zeros
-mul-zeros c = search needs
-
-add-zeros : tie.Need-add-zeros
-add-zeros c = search needs
-
-add-zeros-2 : tie.Need-add-zeros-2
-add-zeros-2 c = search needs
-
-mul-zeros-2 : tie.Need-mul-zeros-2
-mul-zeros-2 c = search needs
-
-add-zeros-3 : tie.Need-add-zeros-3
-add-zeros-3 c = search needs
-
-zeros-requires : tie.Need-zeros-requires
-zeros-requires c κs = search needs
 
 returns-2 : tie.Need-returns-2
 unfolding slotRule
@@ -41,13 +17,13 @@ pub slot-spec : {M : Type 1} → statement M
 slot-spec =
     tie.close
     (tie.spec
-    paths-requires
-    path-requires
+    (λ c κs. search needs)
+    (λ c κs. search needs)
     returns
-    mul-zeros
-    add-zeros
-    add-zeros-2
-    mul-zeros-2
-    add-zeros-3
-    zeros-requires
+    (λ c. search needs)
+    (λ c. search needs)
+    (λ c. search needs)
+    (λ c. search needs)
+    (λ c. search needs)
+    (λ c κs. search needs)
     returns-2)

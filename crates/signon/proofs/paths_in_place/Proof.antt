@@ -20,9 +20,6 @@ Inv-loop base t e n j₀ j = (j ≤ e .count) × (allBelow (pathPlaced t base e)
 abbrev μ-loop : tie.MeasureT-loop
 μ-loop base t e n j₀ j = n - j
 
-cast-n : tie.Need-cast-n Inv-loop μ-loop
-cast-n c = search needs
-
 loop-holds : tie.Need-loop-holds Inv-loop μ-loop
 unfolding allBelow
 loop-holds c = search needs
@@ -53,12 +50,6 @@ returns c =
     let o = path-read (a .t) (now (a .base)) (a .e) (l .loop .j) (p .path-of .ensures) (x .entry-of .ensures) (c .before .path-in-place .ensures) in
     fails (pathPlaced (a .t) (now (a .base)) (a .e)) (a .e .count) (l .loop .j) (p .before .loop-test .taken) o (c .if1 .taken)
 
-add-j : tie.Need-add-j Inv-loop μ-loop
-add-j c = search needs
-
-loop-less : tie.Need-loop-less Inv-loop μ-loop
-loop-less c = search needs
-
 loop-again : tie.Need-loop-again Inv-loop μ-loop
 loop-again c =
     let x = c .before .before in
@@ -81,13 +72,13 @@ paths-in-place-spec =
     (tie.spec
     Inv-loop
     μ-loop
-    cast-n
+    (λ c. search needs)
     loop-holds
     path-of-requires
     entry-of-requires
     path-in-place-requires
     returns
-    add-j
-    loop-less
+    (λ c. search needs)
+    (λ c. search needs)
     loop-again
     returns-2)

@@ -51,9 +51,6 @@ add-i c =
     let s = l .before .before .before in
     omega (arith, c .before .before .before .loop-test .taken, s .pre .ok .few-masters, s .pre .ok .few-variables)
 
-loop-less : tie.Need-loop-less Inv-loop μ-loop
-loop-less c = search needs
-
 loop-again : tie.Need-loop-again Inv-loop μ-loop
 loop-again c =
     let e = c .before .before in
@@ -82,6 +79,6 @@ sets-in-place-spec =
     set-in-place-requires
     returns
     add-i
-    loop-less
+    (λ c. search needs)
     loop-again
     returns-2)

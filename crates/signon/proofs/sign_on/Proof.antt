@@ -10,17 +10,11 @@ use borrow.Author.Needs.{needs}
 use Rattle.signon.proofs.sign_on.Statement.{statement}
 use Rattle.signon.proofs.sign_on.Tie as tie
 
-checks-true-requires : tie.Need-checks-true-requires
-checks-true-requires c κs = search needs
-
 returns : tie.Need-returns
 unfolding inPlace
 returns c =
     let a = c .before .before .before .args in
     stops (checksTrue (a .t) (now (a .base))) (allBelow (setPlaced (a .t) (now (a .base))) (setCount (a .t))) (c .before .checks-true .ensures) (c .if1 .taken)
-
-sets-in-place-requires : tie.Need-sets-in-place-requires
-sets-in-place-requires c κs = search needs
 
 returns-2 : tie.Need-returns-2
 unfolding inPlace
@@ -29,4 +23,4 @@ returns-2 c =
     goes-on (checksTrue (a .t) (now (a .base))) (allBelow (setPlaced (a .t) (now (a .base))) (setCount (a .t))) (c .before .before .checks-true .ensures) (c .before .if1 .left) (c .sets-in-place .ensures)
 
 pub sign-on-spec : {M : Type 1} → statement M
-sign-on-spec = tie.close (tie.spec checks-true-requires returns sets-in-place-requires returns-2)
+sign-on-spec = tie.close (tie.spec (λ c κs. search needs) returns (λ c κs. search needs) returns-2)

@@ -6,16 +6,10 @@ use Rattle.store.proofs.sign_on.Tie as tie
 sign-on-requires : tie.Need-sign-on-requires
 sign-on-requires c κs = c .before .pre
 
-ended-requires : tie.Need-ended-requires
-ended-requires c κs = search needs
-
 returns : tie.Need-returns
 returns c =
     let s = c .before .before in
     (rw (← inPlace-sound _ _ (s .before .before .pre .ok), ← s .sign-on .ensures, c .before .if1 .taken) (c .ended .ensures .0), c .ended .ensures .1)
-
-ended-requires-2 : tie.Need-ended-requires-2
-ended-requires-2 c κs = search needs
 
 returns-2 : tie.Need-returns-2
 returns-2 c =
@@ -24,4 +18,4 @@ returns-2 c =
 
 pub sign-on-spec : {M : Type 1} → statement M
 sign-on-spec =
-    tie.close (tie.spec sign-on-requires ended-requires returns ended-requires-2 returns-2)
+    tie.close (tie.spec sign-on-requires (λ c κs. search needs) returns (λ c κs. search needs) returns-2)

@@ -6,12 +6,6 @@ use borrow.Author.Needs.{needs}
 use Rattle.store.proofs.under.Statement.{statement}
 use Rattle.store.proofs.under.Tie as tie
 
-length-of-requires : tie.Need-length-of-requires
-length-of-requires c κs = search needs
-
-ended-requires : tie.Need-ended-requires
-ended-requires c κs = search needs
-
 returns : tie.Need-returns
 returns c = decides-size _ _ _ _ _ _ _ _ (λ h. c .before .if1 .taken (h ∙ sym (c .before .before .length-of .ensures))) (c .ended .ensures .0) (ap (λ r. r .0) (c .ended .ensures .1))
 
@@ -21,12 +15,6 @@ perform-requires c κs =
     let p = f .before .before .before .before .before .before .before .pre in
     (record { ok = p .0 .ok; fields = p .0 .fields; size = omega (arith, f .if1 .left, f .before .length-of .ensures) }, p .1)
 
-same-length : tie.Need-same-length
-same-length c = search needs
-
-same-length-2 : tie.Need-same-length-2
-same-length-2 c = search needs
-
 returns-2 : tie.Need-returns-2
 returns-2 c = c .before .before .before .before .perform .ensures
 
@@ -34,10 +22,10 @@ pub under-spec : {M : Type 1} → statement M
 under-spec =
     tie.close
     (tie.spec
-    length-of-requires
-    ended-requires
+    (λ c κs. search needs)
+    (λ c κs. search needs)
     returns
     perform-requires
-    same-length
-    same-length-2
+    (λ c. search needs)
+    (λ c. search needs)
     returns-2)

@@ -1,29 +1,13 @@
--- `sweep::find_any` meets its contract: no set of the name, or one, and the forms of the parameters.
+-- `sweep::find_any` meets its contract: no set of the name, or one.
 use mathlib.Core.Path.{_≡_, refl}
-use mathlib.Core.Bool.{true, false}
+use mathlib.Core.Bool.{true}
 use native.Mathlib.Omega.{arith}
 use lib.Dec.{ltb}
 use borrow.Author.Tests.{lt-ltb, le-ltb}
-use Rattle.octets.specs.TestLaws.{never-both}
 use Rattle.schema.specs.Decode.{setCount}
-use Rattle.records.specs.Fields.{Fields}
 use borrow.Author.Needs.{needs}
 use Rattle.sweep.proofs.find_any.Statement.{statement}
 use Rattle.sweep.proofs.find_any.Tie as tie
-
--- the set is one of the schema's
-fields : (d : tie.After-entry-of2) → Fields (d .entry-of2 .result)
-fields d =
-    rw (d .entry-of2 .ensures) (d .before .before .before .before .before .before .before .before .pre .0 .fields _ (omega (arith, d .before .if1 .left, d .before .before .before .sets .ensures)))
-
-set-named-requires : tie.Need-set-named-requires
-set-named-requires c κs = search needs
-
-sets-requires : tie.Need-sets-requires
-sets-requires c κs = search needs
-
-entry-of-requires : tie.Need-entry-of-requires
-entry-of-requires c κs = search needs
 
 returns : tie.Need-returns
 returns c =
@@ -31,31 +15,23 @@ returns c =
     rw (c .entry-of .ensures, ← b .set-named .ensures, le-ltb _ _ (rw (c .before .before .before .sets .ensures) at (c .before .if1 .taken))) refl
 
 -- the number is one of the schema's sets
-within : (d : tie.After-entry-of2) → (let b = d .before .before .before .before in ltb (b .set-named .result .0) (setCount (b .before .before .before .before .args .t)) ≡ true)
+within : (d : tie.After-entry-of2) → (let b = d .before .before .before .before in ltb (b .set-named .result .0) (setCount (b .before .before .args .t)) ≡ true)
 within d =
     let b = d .before .before .before .before in
-    lt-ltb (b .set-named .result .0) (setCount (b .before .before .before .before .args .t)) (omega (arith, d .before .if1 .left, d .before .before .before .sets .ensures))
-
-entry-of-requires-2 : tie.Need-entry-of-requires-2
-entry-of-requires-2 c κs = search needs
-
-form-status-requires : tie.Need-form-status-requires
-form-status-requires c κs = (fields c, (λ v s. absurd (never-both false s refl), fields c .short))
+    lt-ltb (b .set-named .result .0) (setCount (b .before .before .args .t)) (omega (arith, d .before .if1 .left, d .before .before .before .sets .ensures))
 
 returns-2 : tie.Need-returns-2
 returns-2 c =
-    let d = c .before in
-    let b = d .before .before .before .before in
-    rw (← b .set-named .ensures, within d, ← d .entry-of2 .ensures, ← c .form-status .ensures) refl
+    let b = c .before .before .before .before in
+    rw (← b .set-named .ensures, within c, ← c .entry-of2 .ensures) refl
 
 pub find-any-spec : {M : Type 1} → statement M
 find-any-spec =
     tie.close
     (tie.spec
-    set-named-requires
-    sets-requires
-    entry-of-requires
+    (λ c κs. search needs)
+    (λ c κs. search needs)
+    (λ c κs. search needs)
     returns
-    entry-of-requires-2
-    form-status-requires
+    (λ c κs. search needs)
     returns-2)

@@ -13,18 +13,12 @@ next-live-requires c κs =
     let i = set-in (p .0 .set) in
     (i .lies, (omega (arith, i .head), p .1 .0))
 
-or-none-requires : tie.Need-or-none-requires
-or-none-requires c κs = search needs
-
 give-requires : tie.Need-give-requires
 give-requires c κs =
     let s = c .before .before .before .before .before in
     let p = s .pre in
     let i = set-in (p .0 .set) in
     (i .lies, (i .fields, (rw (c .before .or-none .ensures) (none-within (s .args .e) _), p .1 .1)))
-
-same-length : tie.Need-same-length
-same-length c = search needs
 
 returns : tie.Need-returns
 returns c =
@@ -35,4 +29,4 @@ returns c =
 
 pub rdnxt-spec : {M : Type 1} → statement M
 rdnxt-spec =
-    tie.close (tie.spec next-live-requires or-none-requires give-requires same-length returns)
+    tie.close (tie.spec next-live-requires (λ c κs. search needs) give-requires (λ c. search needs) returns)

@@ -13,24 +13,6 @@ use borrow.Author.Needs.{needs}
 use Rattle.terms.proofs.five_letters.Statement.{statement}
 use Rattle.terms.proofs.five_letters.Tie as tie
 
-shared-slice-read-join-five : tie.Need-shared-slice-read-join-five
-shared-slice-read-join-five c = search needs
-
-shared-slice-read-join-five-2 : tie.Need-shared-slice-read-join-five-2
-shared-slice-read-join-five-2 c = search needs
-
-shared-slice-read-join-five-3 : tie.Need-shared-slice-read-join-five-3
-shared-slice-read-join-five-3 c = search needs
-
-shared-slice-read-join-five-4 : tie.Need-shared-slice-read-join-five-4
-shared-slice-read-join-five-4 c = search needs
-
-shared-slice-read-join-five-5 : tie.Need-shared-slice-read-join-five-5
-shared-slice-read-join-five-5 c = search needs
-
-join-five-requires : tie.Need-join-five-requires
-join-five-requires c κs = search needs
-
 abbrev letters : tie.After-join-five → List ℕ
 letters c = now (c .before .before .before .before .before .before .before .args .op)
 
@@ -135,12 +117,12 @@ pub five-letters-spec : {M : Type 1} → statement M
 five-letters-spec =
     tie.close
     (tie.spec
-    shared-slice-read-join-five
-    shared-slice-read-join-five-2
-    shared-slice-read-join-five-3
-    shared-slice-read-join-five-4
-    shared-slice-read-join-five-5
-    join-five-requires
+    (λ c. search needs)
+    (λ c. search needs)
+    (λ c. search needs)
+    (λ c. search needs)
+    (λ c. search needs)
+    (λ c κs. search needs)
     returns
     returns-2
     returns-3

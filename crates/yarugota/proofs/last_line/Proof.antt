@@ -11,12 +11,6 @@ use Rattle.yarugota.proofs.last_line.Tie as tie
 slice-aggregate-end-line : tie.Need-slice-aggregate-end-line
 slice-aggregate-end-line c = sym (length-take-le _ _ (omega arith))
 
-end-line-requires : tie.Need-end-line-requires
-end-line-requires c κs = search needs
-
-same-length : tie.Need-same-length
-same-length c = search needs
-
 returns : tie.Need-returns
 returns c =
     let e = c .before .before in
@@ -31,4 +25,4 @@ returns-2 c =
 
 pub last-line-spec : {M : Type 1} → statement M
 last-line-spec =
-    tie.close (tie.spec slice-aggregate-end-line end-line-requires same-length returns returns-2)
+    tie.close (tie.spec slice-aggregate-end-line (λ c κs. search needs) (λ c. search needs) returns returns-2)

@@ -22,15 +22,6 @@ loop-holds : tie.Need-loop-holds Inv-loop μ-loop
 unfolding bytesTaken
 loop-holds c = (search needs, search needs, search needs, ([], record { number = refl; line = nothing-kept _; base = refl }))
 
-read-once-requires : tie.Need-read-once-requires Inv-loop μ-loop
-read-once-requires c κs = search needs
-
-same-length : tie.Need-same-length Inv-loop μ-loop
-same-length c = search needs
-
-same-length-2 : tie.Need-same-length-2 Inv-loop μ-loop
-same-length-2 c = search needs
-
 returns : tie.Need-returns Inv-loop μ-loop
 returns c =
     let r = c .before .before .before .before .before .before .before in
@@ -40,12 +31,6 @@ returns c =
     let i = l .loop .inv .3 in
     (w .0, (i .0 ++ w .1 .0, rw (taken-append (now (a .schema)) (begun (now (a .base))) (i .0) (w .1 .0)) (w .1 .2 _ (i .1))))
 
-sub-turns : tie.Need-sub-turns Inv-loop μ-loop
-sub-turns c = search needs
-
-loop-less : tie.Need-loop-less Inv-loop μ-loop
-loop-less c = search needs
-
 loop-again : tie.Need-loop-again Inv-loop μ-loop
 loop-again c =
     let r = c .before .before .before .before .before .before .before in
@@ -54,12 +39,6 @@ loop-again c =
     let w = r .read-once .ensures in
     let i = l .loop .inv .3 in
     (w .0, search needs, search needs, (i .0 ++ w .1 .0, rw (taken-append (now (a .schema)) (begun (now (a .base))) (i .0) (w .1 .0)) (w .1 .2 _ (i .1))))
-
-same-length-3 : tie.Need-same-length-3 Inv-loop μ-loop
-same-length-3 c = search needs
-
-same-length-4 : tie.Need-same-length-4 Inv-loop μ-loop
-same-length-4 c = search needs
 
 returns-2 : tie.Need-returns-2 Inv-loop μ-loop
 returns-2 c = (c .before .loop .inv .0, c .before .loop .inv .3)
@@ -71,13 +50,13 @@ read-all-spec =
     Inv-loop
     μ-loop
     loop-holds
-    read-once-requires
-    same-length
-    same-length-2
+    (λ c κs. search needs)
+    (λ c. search needs)
+    (λ c. search needs)
     returns
-    sub-turns
-    loop-less
+    (λ c. search needs)
+    (λ c. search needs)
     loop-again
-    same-length-3
-    same-length-4
+    (λ c. search needs)
+    (λ c. search needs)
     returns-2)

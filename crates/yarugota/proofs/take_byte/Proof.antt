@@ -8,35 +8,14 @@ use Rattle.console.specs.SessionLaws.{line-taken, byte-kept}
 use Rattle.yarugota.proofs.take_byte.Statement.{statement}
 use Rattle.yarugota.proofs.take_byte.Tie as tie
 
-slice-reshare-prefix-end-line : tie.Need-slice-reshare-prefix-end-line
-slice-reshare-prefix-end-line c = search needs
-
 slice-aggregate-end-line : tie.Need-slice-aggregate-end-line
 slice-aggregate-end-line c = sym (length-take-le _ _ (omega arith))
-
-end-line-requires : tie.Need-end-line-requires
-end-line-requires c κs = search needs
-
-wrapping-add-u64-requires : tie.Need-wrapping-add-u64-requires
-wrapping-add-u64-requires c κs = search needs
-
-same-length : tie.Need-same-length
-same-length c = search needs
-
-same-length-2 : tie.Need-same-length-2
-same-length-2 c = search needs
 
 returns : tie.Need-returns
 returns c =
     let e = c .before .before .before in
     let t = e .before .before .before in
     (omega arith, λ s h. line-taken (now (t .before .before .before .before .args .schema)) h (t .if1 .taken) (c .wrapping-add-u64 .ensures) (e .end-line .ensures))
-
-keep-requires : tie.Need-keep-requires
-keep-requires c κs = search needs
-
-same-length-3 : tie.Need-same-length-3
-same-length-3 c = search needs
 
 returns-2 : tie.Need-returns-2
 returns-2 c =
@@ -48,13 +27,13 @@ pub take-byte-spec : {M : Type 1} → statement M
 take-byte-spec =
     tie.close
     (tie.spec
-    slice-reshare-prefix-end-line
+    (λ c. search needs)
     slice-aggregate-end-line
-    end-line-requires
-    wrapping-add-u64-requires
-    same-length
-    same-length-2
+    (λ c κs. search needs)
+    (λ c κs. search needs)
+    (λ c. search needs)
+    (λ c. search needs)
     returns
-    keep-requires
-    same-length-3
+    (λ c κs. search needs)
+    (λ c. search needs)
     returns-2)

@@ -21,27 +21,12 @@ abbrev μ-loop : tie.MeasureT-loop
 whole : (s : tie.Start Inv-loop μ-loop) → length (s .args .t1 .numbers) ≡ 12
 whole s = sym (length-map (s .args .t1 .numbers) _) ∙ s .good .0 .1 .1 .0 .1 .0 .1
 
-loop-holds : tie.Need-loop-holds Inv-loop μ-loop
-loop-holds c = search needs
-
-mul-k : tie.Need-mul-k Inv-loop μ-loop
-mul-k c = search needs
-
-element-copy-out-k : tie.Need-element-copy-out-k Inv-loop μ-loop
-element-copy-out-k c = search needs
-
 returns : tie.Need-returns Inv-loop μ-loop
 returns c =
     let l = c .before .before .before .before .before in
     let a = l .before .args in
     let f : isNew (a .n .0) (drop (l .loop .i) (numbersOf (a .t1))) ≡ false = blocks-fail (a .t1) (whole (l .before)) (l .before .pre) (isOther (a .n .0)) (l .loop .i) (omega arith) (ap not (eq-eqb _ _ (c .if1 .taken))) in
     sym f ∙ l .loop .inv .1
-
-add-i : tie.Need-add-i Inv-loop μ-loop
-add-i c = search needs
-
-loop-less : tie.Need-loop-less Inv-loop μ-loop
-loop-less c = search needs
 
 loop-again : tie.Need-loop-again Inv-loop μ-loop
 loop-again c =
@@ -61,11 +46,11 @@ is-new-spec =
     (tie.spec
     Inv-loop
     μ-loop
-    loop-holds
-    mul-k
-    element-copy-out-k
+    (λ c. search needs)
+    (λ c. search needs)
+    (λ c. search needs)
     returns
-    add-i
-    loop-less
+    (λ c. search needs)
+    (λ c. search needs)
     loop-again
     returns-2)

@@ -10,18 +10,6 @@ use Rattle.commit.proofs.Blocks.with.Tie as tie
 whole : (s : tie.Start) → length (s .args .self .numbers) ≡ 12
 whole s = sym (length-map (s .args .self .numbers) _) ∙ s .good .0 .1 .1 .0 .1 .0 .1
 
-is-new-requires : tie.Need-is-new-requires
-is-new-requires c κs = search needs
-
-mul-n : tie.Need-mul-n
-mul-n c = search needs
-
-element-set-from-n : tie.Need-element-set-from-n
-element-set-from-n c = search needs
-
-add-s : tie.Need-add-s
-add-s c = search needs
-
 returns : tie.Need-returns
 returns c =
     let k = c .before in
@@ -35,4 +23,4 @@ returns-2 c =
     (block-known (s .args .self) (s .args .n .0) (sym (k .is-new .ensures) ∙ c .if1 .left), omega arith)
 
 pub with-spec : {M : Type 1} → statement M
-with-spec = tie.close (tie.spec is-new-requires mul-n element-set-from-n add-s returns returns-2)
+with-spec = tie.close (tie.spec (λ c κs. search needs) (λ c. search needs) (λ c. search needs) (λ c. search needs) returns returns-2)

@@ -6,9 +6,6 @@ use borrow.Author.Needs.{needs}
 use Rattle.console.proofs.asked.operation_in.Statement.{statement}
 use Rattle.console.proofs.asked.operation_in.Tie as tie
 
-field-requires : tie.Need-field-requires
-field-requires c κs = search needs
-
 operation-requires : tie.Need-operation-requires
 operation-requires c κs =
     let s = c .before .before in
@@ -18,4 +15,4 @@ returns : tie.Need-returns
 returns c = rw (c .operation .ensures, c .before .field .ensures) refl
 
 pub operation-in-spec : {M : Type 1} → statement M
-operation-in-spec = tie.close (tie.spec field-requires operation-requires returns)
+operation-in-spec = tie.close (tie.spec (λ c κs. search needs) operation-requires returns)

@@ -4,11 +4,8 @@ use borrow.Author.Needs.{needs}
 use Rattle.console.proofs.asked.operation_made.Statement.{statement}
 use Rattle.console.proofs.asked.operation_made.Tie as tie
 
-field-requires : tie.Need-field-requires
-field-requires c κs = search needs
-
 returns : tie.Need-returns
 returns c = rw (c .field .ensures) refl
 
 pub operation-made-spec : {M : Type 1} → statement M
-operation-made-spec = tie.close (tie.spec field-requires returns)
+operation-made-spec = tie.close (tie.spec (λ c κs. search needs) returns)

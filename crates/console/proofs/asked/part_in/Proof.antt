@@ -4,14 +4,8 @@ use borrow.Author.Needs.{needs}
 use Rattle.console.proofs.asked.part_in.Statement.{statement}
 use Rattle.console.proofs.asked.part_in.Tie as tie
 
-field-requires : tie.Need-field-requires
-field-requires c κs = search needs
-
-part-requires : tie.Need-part-requires
-part-requires c κs = search needs
-
 returns : tie.Need-returns
 returns c = rw (c .part .ensures, c .before .field .ensures) refl
 
 pub part-in-spec : {M : Type 1} → statement M
-part-in-spec = tie.close (tie.spec field-requires part-requires returns)
+part-in-spec = tie.close (tie.spec (λ c κs. search needs) (λ c κs. search needs) returns)

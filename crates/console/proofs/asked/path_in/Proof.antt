@@ -6,9 +6,6 @@ use borrow.Author.Needs.{needs}
 use Rattle.console.proofs.asked.path_in.Statement.{statement}
 use Rattle.console.proofs.asked.path_in.Tie as tie
 
-field-requires : tie.Need-field-requires
-field-requires c κs = search needs
-
 path-name-requires : tie.Need-path-name-requires
 path-name-requires c κs =
     let s = c .before .before in
@@ -18,4 +15,4 @@ returns : tie.Need-returns
 returns c = rw (c .path-name .ensures, c .before .field .ensures) refl
 
 pub path-in-spec : {M : Type 1} → statement M
-path-in-spec = tie.close (tie.spec field-requires path-name-requires returns)
+path-in-spec = tie.close (tie.spec (λ c κs. search needs) path-name-requires returns)

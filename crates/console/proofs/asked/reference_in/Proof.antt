@@ -6,9 +6,6 @@ use borrow.Author.Needs.{needs}
 use Rattle.console.proofs.asked.reference_in.Statement.{statement}
 use Rattle.console.proofs.asked.reference_in.Tie as tie
 
-field-requires : tie.Need-field-requires
-field-requires c κs = search needs
-
 reference-of-requires : tie.Need-reference-of-requires
 reference-of-requires c κs =
     let s = c .before .before in
@@ -18,4 +15,4 @@ returns : tie.Need-returns
 returns c = rw (c .reference-of .ensures, c .before .field .ensures) refl
 
 pub reference-in-spec : {M : Type 1} → statement M
-reference-in-spec = tie.close (tie.spec field-requires reference-of-requires returns)
+reference-in-spec = tie.close (tie.spec (λ c κs. search needs) reference-of-requires returns)

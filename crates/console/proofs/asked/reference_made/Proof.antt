@@ -4,14 +4,8 @@ use borrow.Author.Needs.{needs}
 use Rattle.console.proofs.asked.reference_made.Statement.{statement}
 use Rattle.console.proofs.asked.reference_made.Tie as tie
 
-field-requires : tie.Need-field-requires
-field-requires c κs = search needs
-
-is-reference-requires : tie.Need-is-reference-requires
-is-reference-requires c κs = search needs
-
 returns : tie.Need-returns
 returns c = rw (c .is-reference .ensures, c .before .field .ensures) refl
 
 pub reference-made-spec : {M : Type 1} → statement M
-reference-made-spec = tie.close (tie.spec field-requires is-reference-requires returns)
+reference-made-spec = tie.close (tie.spec (λ c κs. search needs) (λ c κs. search needs) returns)

@@ -6,9 +6,6 @@ use borrow.Author.Needs.{needs}
 use Rattle.console.proofs.asked.set_in.Statement.{statement}
 use Rattle.console.proofs.asked.set_in.Tie as tie
 
-field-requires : tie.Need-field-requires
-field-requires c κs = search needs
-
 set-name-requires : tie.Need-set-name-requires
 set-name-requires c κs =
     let s = c .before .before in
@@ -18,4 +15,4 @@ returns : tie.Need-returns
 returns c = rw (c .set-name .ensures, c .before .field .ensures) refl
 
 pub set-in-spec : {M : Type 1} → statement M
-set-in-spec = tie.close (tie.spec field-requires set-name-requires returns)
+set-in-spec = tie.close (tie.spec (λ c κs. search needs) set-name-requires returns)

@@ -4,11 +4,8 @@ use borrow.Author.Needs.{needs}
 use Rattle.console.proofs.asked.six_fields.Statement.{statement}
 use Rattle.console.proofs.asked.six_fields.Tie as tie
 
-end-of-requires : tie.Need-end-of-requires
-end-of-requires c κs = search needs
-
 returns : tie.Need-returns
 returns c = rw (c .end-of .ensures) refl
 
 pub six-fields-spec : {M : Type 1} → statement M
-six-fields-spec = tie.close (tie.spec end-of-requires returns)
+six-fields-spec = tie.close (tie.spec (λ c κs. search needs) returns)

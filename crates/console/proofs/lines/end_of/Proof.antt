@@ -16,24 +16,9 @@ Inv-loop line k at₀ i₀ at i = (i ≤ k) × (at ≡ endOf line i) × (at ≤ 
 abbrev μ-loop : tie.MeasureT-loop
 μ-loop line k at₀ i₀ at i = k - i
 
-end-from-requires : tie.Need-end-from-requires Inv-loop μ-loop
-end-from-requires c κs = search needs
-
 loop-holds : tie.Need-loop-holds Inv-loop μ-loop
 unfolding endOf
 loop-holds c = (omega arith, c .end-from .ensures, omega (arith, c .end-from .ensures, endOf-le (now (c .before .before .args .line)) 0))
-
-add-end-from : tie.Need-add-end-from Inv-loop μ-loop
-add-end-from c = search needs
-
-end-from-requires-2 : tie.Need-end-from-requires-2 Inv-loop μ-loop
-end-from-requires-2 c κs = search needs
-
-add-i : tie.Need-add-i Inv-loop μ-loop
-add-i c = search needs
-
-loop-less : tie.Need-loop-less Inv-loop μ-loop
-loop-less c = search needs
 
 loop-again : tie.Need-loop-again Inv-loop μ-loop
 loop-again c =
@@ -55,11 +40,11 @@ end-of-spec =
     (tie.spec
     Inv-loop
     μ-loop
-    end-from-requires
+    (λ c κs. search needs)
     loop-holds
-    add-end-from
-    end-from-requires-2
-    add-i
-    loop-less
+    (λ c. search needs)
+    (λ c κs. search needs)
+    (λ c. search needs)
+    (λ c. search needs)
     loop-again
     returns)

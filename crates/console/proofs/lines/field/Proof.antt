@@ -18,12 +18,6 @@ within c =
     let e = endOf-last line (s .args .k) (s .pre .0 .1) in
     (omega (arith, c .end-of .ensures, c .before .start-of .ensures), omega (arith, c .end-of .ensures, s .pre .1))
 
-start-of-requires : tie.Need-start-of-requires
-start-of-requires c κs = search needs
-
-end-of-requires : tie.Need-end-of-requires
-end-of-requires c κs = search needs
-
 sub-result : tie.Need-sub-result
 sub-result c = within c .0
 
@@ -40,8 +34,8 @@ pub field-spec : {M : Type 1} → statement M
 field-spec =
     tie.close
     (tie.spec
-    start-of-requires
-    end-of-requires
+    (λ c κs. search needs)
+    (λ c κs. search needs)
     sub-result
     part-result-start
     part-result-end

@@ -4,11 +4,8 @@ use borrow.Author.Needs.{needs}
 use Rattle.console.proofs.lines.is_name.Statement.{statement}
 use Rattle.console.proofs.lines.is_name.Tie as tie
 
-is-dash-requires : tie.Need-is-dash-requires
-is-dash-requires c κs = search needs
-
 returns : tie.Need-returns
 returns c = rw (c .is-dash .ensures) refl
 
 pub is-name-spec : {M : Type 1} → statement M
-is-name-spec = tie.close (tie.spec is-dash-requires returns)
+is-name-spec = tie.close (tie.spec (λ c κs. search needs) returns)

@@ -7,16 +7,10 @@ use borrow.Author.Needs.{needs}
 use Rattle.console.proofs.lines.operation.Statement.{statement}
 use Rattle.console.proofs.lines.operation.Tie as tie
 
-slice-aggregate-copy-in : tie.Need-slice-aggregate-copy-in
-slice-aggregate-copy-in c = search needs
-
-copy-in-requires : tie.Need-copy-in-requires
-copy-in-requires c κs = search needs
-
 returns : tie.Need-returns
 returns c =
     let s = c .before .before .before .before in
     c .before .copy-in .ensures ∙ splice-whole (replicate 5 32) (now (s .args .f)) (s .pre)
 
 pub operation-spec : {M : Type 1} → statement M
-operation-spec = tie.close (tie.spec slice-aggregate-copy-in copy-in-requires returns)
+operation-spec = tie.close (tie.spec (λ c. search needs) (λ c κs. search needs) returns)

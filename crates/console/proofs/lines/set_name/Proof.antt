@@ -9,9 +9,6 @@ use borrow.Author.Needs.{needs}
 use Rattle.console.proofs.lines.set_name.Statement.{statement}
 use Rattle.console.proofs.lines.set_name.Tie as tie
 
-is-dash-requires : tie.Need-is-dash-requires
-is-dash-requires c κs = search needs
-
 -- a name that is not "-" has its length
 sized : (c : tie.Else1) → length (now (c .before .before .before .args .f)) ≡ 4
 sized c =
@@ -19,9 +16,6 @@ sized c =
 
 returns : tie.Need-returns
 returns c = rw (sym (c .before .is-dash .ensures) ∙ c .if1 .taken) refl
-
-slice-aggregate-copy-in : tie.Need-slice-aggregate-copy-in
-slice-aggregate-copy-in c = search needs
 
 copy-in-requires : tie.Need-copy-in-requires
 copy-in-requires c κs = omega (arith, sized (c .before))
@@ -35,4 +29,4 @@ returns-2 c =
 pub set-name-spec : {M : Type 1} → statement M
 set-name-spec =
     tie.close
-    (tie.spec is-dash-requires returns slice-aggregate-copy-in copy-in-requires returns-2)
+    (tie.spec (λ c κs. search needs) returns (λ c. search needs) copy-in-requires returns-2)

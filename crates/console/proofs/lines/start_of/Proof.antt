@@ -7,15 +7,6 @@ use borrow.Author.Needs.{needs}
 use Rattle.console.proofs.lines.start_of.Statement.{statement}
 use Rattle.console.proofs.lines.start_of.Tie as tie
 
-returns : tie.Need-returns
-returns c = search needs
-
-sub-end-of : tie.Need-sub-end-of
-sub-end-of c = search needs
-
-end-of-requires : tie.Need-end-of-requires
-end-of-requires c κs = search needs
-
 add-result : tie.Need-add-result
 add-result c =
     let a = c .before .before .before .args in
@@ -27,4 +18,4 @@ returns-2 c =
     rw (c .end-of .ensures) (start-behind (now (a .line)) (a .k) (c .before .if1 .left))
 
 pub start-of-spec : {M : Type 1} → statement M
-start-of-spec = tie.close (tie.spec returns sub-end-of end-of-requires add-result returns-2)
+start-of-spec = tie.close (tie.spec (λ c. search needs) (λ c. search needs) (λ c κs. search needs) add-result returns-2)

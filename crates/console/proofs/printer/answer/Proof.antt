@@ -6,15 +6,6 @@ use borrow.Author.Needs.{needs}
 use Rattle.console.proofs.printer.answer.Statement.{statement}
 use Rattle.console.proofs.printer.answer.Tie as tie
 
-code-requires : tie.Need-code-requires
-code-requires c κs = search needs
-
-start-requires : tie.Need-start-requires
-start-requires c κs = search needs
-
-put-reference-requires : tie.Need-put-reference-requires
-put-reference-requires c κs = search needs
-
 returns : tie.Need-returns
 returns c =
     let s = c .before .before in
@@ -22,4 +13,4 @@ returns c =
     (omega (arith, c .put-reference .ensures .0, s .start .ensures .0), rw (c .put-reference .ensures .1, s .start .ensures .1, k .code .ensures) refl, stays-behind (s .start .ensures .2) (c .put-reference .ensures .3) (c .put-reference .ensures .2))
 
 pub answer-spec : {M : Type 1} → statement M
-answer-spec = tie.close (tie.spec code-requires start-requires put-reference-requires returns)
+answer-spec = tie.close (tie.spec (λ c κs. search needs) (λ c κs. search needs) (λ c κs. search needs) returns)

@@ -8,12 +8,6 @@ use borrow.Author.Needs.{needs}
 use Rattle.console.proofs.printer.put.Statement.{statement}
 use Rattle.console.proofs.printer.put.Tie as tie
 
-copy-in-requires : tie.Need-copy-in-requires
-copy-in-requires c κs = search needs
-
-add-result : tie.Need-add-result
-add-result c = search needs
-
 returns : tie.Need-returns
 returns c =
     let a = c .before .before .before .args in
@@ -24,4 +18,4 @@ returns c =
     )
 
 pub put-spec : {M : Type 1} → statement M
-put-spec = tie.close (tie.spec copy-in-requires add-result returns)
+put-spec = tie.close (tie.spec (λ c κs. search needs) (λ c. search needs) returns)

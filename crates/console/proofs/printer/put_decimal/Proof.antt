@@ -8,24 +8,6 @@ use borrow.Author.Needs.{needs}
 use Rattle.console.proofs.printer.put_decimal.Statement.{statement}
 use Rattle.console.proofs.printer.put_decimal.Tie as tie
 
-slice-aggregate-spell : tie.Need-slice-aggregate-spell
-slice-aggregate-spell c = search needs
-
-spell-requires : tie.Need-spell-requires
-spell-requires c κs = search needs
-
-sub-put : tie.Need-sub-put
-sub-put c = search needs
-
-part-put-start : tie.Need-part-put-start
-part-put-start c = search needs
-
-part-put-end : tie.Need-part-put-end
-part-put-end c = search needs
-
-put-requires : tie.Need-put-requires
-put-requires c κs = search needs
-
 returns : tie.Need-returns
 returns c =
     let s = c .before .before .before .before .before in
@@ -39,10 +21,10 @@ pub put-decimal-spec : {M : Type 1} → statement M
 put-decimal-spec =
     tie.close
     (tie.spec
-    slice-aggregate-spell
-    spell-requires
-    sub-put
-    part-put-start
-    part-put-end
-    put-requires
+    (λ c. search needs)
+    (λ c κs. search needs)
+    (λ c. search needs)
+    (λ c. search needs)
+    (λ c. search needs)
+    (λ c κs. search needs)
     returns)

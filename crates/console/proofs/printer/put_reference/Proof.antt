@@ -7,21 +7,6 @@ use borrow.Author.Needs.{needs}
 use Rattle.console.proofs.printer.put_reference.Statement.{statement}
 use Rattle.console.proofs.printer.put_reference.Tie as tie
 
-is-spelt-requires : tie.Need-is-spelt-requires
-is-spelt-requires c κs = search needs
-
-slice-aggregate-put-word : tie.Need-slice-aggregate-put-word
-slice-aggregate-put-word c = search needs
-
-put-word-requires : tie.Need-put-word-requires
-put-word-requires c κs = search needs
-
-slice-aggregate-put : tie.Need-slice-aggregate-put
-slice-aggregate-put c = search needs
-
-put-requires : tie.Need-put-requires
-put-requires c κs = search needs
-
 returns : tie.Need-returns
 returns c =
     let w = c .before .before .before .before in
@@ -29,9 +14,6 @@ returns c =
     let e : w .put-word .last .0 ≡ wordBytes (t .before .before .args .v) = w .put-word .ensures ∙ word-whole (t .before .before .args .v) in
     let p = rw e at (c .put .ensures) in
     (omega (arith, p .0), rw (sym (t .before .is-spelt .ensures) ∙ t .if1 .taken) (p .1), p .2, omega (arith, p .0))
-
-put-decimal-requires : tie.Need-put-decimal-requires
-put-decimal-requires c κs = search needs
 
 returns-2 : tie.Need-returns-2
 returns-2 c =
@@ -42,11 +24,11 @@ pub put-reference-spec : {M : Type 1} → statement M
 put-reference-spec =
     tie.close
     (tie.spec
-    is-spelt-requires
-    slice-aggregate-put-word
-    put-word-requires
-    slice-aggregate-put
-    put-requires
+    (λ c κs. search needs)
+    (λ c. search needs)
+    (λ c κs. search needs)
+    (λ c. search needs)
+    (λ c κs. search needs)
     returns
-    put-decimal-requires
+    (λ c κs. search needs)
     returns-2)

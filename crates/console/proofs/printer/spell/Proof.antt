@@ -21,15 +21,6 @@ loop-holds c =
     let s = c .before in
     (omega arith, s .pre, rw (drop-of-length-le (now (s .args .digits)) {i = 20} (omega arith)) refl)
 
-sub-i : tie.Need-sub-i Inv-loop μ-loop
-sub-i c = search needs
-
-last-digit-requires : tie.Need-last-digit-requires Inv-loop μ-loop
-last-digit-requires c κs = search needs
-
-slice-write-digits : tie.Need-slice-write-digits Inv-loop μ-loop
-slice-write-digits c = search needs
-
 same-length : tie.Need-same-length Inv-loop μ-loop
 same-length c = simp length-set (omega arith)
 
@@ -39,9 +30,6 @@ returns c =
     let e : l .loop .i - 1 + 1 ≡ l .loop .i = omega arith in
     (rw (c .before .last-digit .ensures) (sym (rw e at (digits-last (l .loop .digits) (l .loop .i - 1) (l .loop .rest) (omega arith) (c .if1 .taken))) ∙ l .loop .inv .2), omega arith)
 
-loop-less : tie.Need-loop-less Inv-loop μ-loop
-loop-less c = search needs
-
 loop-again : tie.Need-loop-again Inv-loop μ-loop
 loop-again c =
     let l = c .before .before .before in
@@ -50,9 +38,6 @@ loop-again c =
       simp length-set (l .loop .inv .1),
       rw (c .before .last-digit .ensures) (sym (rw e at (digits-turn (l .loop .digits) (l .loop .i - 1) (l .loop .rest) (omega arith) (c .if1 .left))) ∙ l .loop .inv .2),
     )
-
-same-length-2 : tie.Need-same-length-2 Inv-loop μ-loop
-same-length-2 c = search needs
 
 returns-2 : tie.Need-returns-2 Inv-loop μ-loop
 unfolding digitsOnto
@@ -68,12 +53,12 @@ spell-spec =
     Inv-loop
     μ-loop
     loop-holds
-    sub-i
-    last-digit-requires
-    slice-write-digits
+    (λ c. search needs)
+    (λ c κs. search needs)
+    (λ c. search needs)
     same-length
     returns
-    loop-less
+    (λ c. search needs)
     loop-again
-    same-length-2
+    (λ c. search needs)
     returns-2)

@@ -39,26 +39,11 @@ turn c =
 returns : tie.Need-returns Inv-loop μ-loop
 returns c = rw (eq-eqb _ _ (c .if1 .taken)) refl
 
-loop-holds : tie.Need-loop-holds Inv-loop μ-loop
-loop-holds c = search needs
-
-shared-slice-read-x : tie.Need-shared-slice-read-x Inv-loop μ-loop
-shared-slice-read-x c = search needs
-
-digit-requires : tie.Need-digit-requires Inv-loop μ-loop
-digit-requires c κs = search needs
-
 returns-2 : tie.Need-returns-2 Inv-loop μ-loop
 returns-2 c =
     let l = c .before .before .before .before in
     let e = sym (c .before .digit .ensures) ∙ not-true _ (c .if2 .taken) in
     sym (spelled-fails (l .loop .n) (field l) (l .loop .i) (c .before .before .before .loop-test .taken) e) ∙ l .loop .inv .2 ∙ whole l
-
-mul-n : tie.Need-mul-n Inv-loop μ-loop
-mul-n c = search needs
-
-wide-requires : tie.Need-wide-requires Inv-loop μ-loop
-wide-requires c κs = search needs
 
 sub-n : tie.Need-sub-n Inv-loop μ-loop
 sub-n c =
@@ -72,12 +57,6 @@ returns-3 : tie.Need-returns-3 Inv-loop μ-loop
 returns-3 c =
     let l = c .before .before .before .before .before .before in
     sym (spelled-high (l .loop .n * 10 + (c .before .wide .result - 48)) (drop (l .loop .i + 1) (field l)) (omega arith)) ∙ turn (c .before) ∙ whole l
-
-add-i : tie.Need-add-i Inv-loop μ-loop
-add-i c = search needs
-
-loop-less : tie.Need-loop-less Inv-loop μ-loop
-loop-less c = search needs
 
 loop-again : tie.Need-loop-again Inv-loop μ-loop
 loop-again c = (omega arith, omega arith, turn (c .before))
@@ -94,16 +73,16 @@ decimal-spec =
     Inv-loop
     μ-loop
     returns
-    loop-holds
-    shared-slice-read-x
-    digit-requires
+    (λ c. search needs)
+    (λ c. search needs)
+    (λ c κs. search needs)
     returns-2
-    mul-n
-    wide-requires
+    (λ c. search needs)
+    (λ c κs. search needs)
     sub-n
     add-n
     returns-3
-    add-i
-    loop-less
+    (λ c. search needs)
+    (λ c. search needs)
     loop-again
     returns-4)

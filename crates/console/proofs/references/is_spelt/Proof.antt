@@ -5,24 +5,6 @@ use borrow.Author.Needs.{needs}
 use Rattle.console.proofs.references.is_spelt.Statement.{statement}
 use Rattle.console.proofs.references.is_spelt.Tie as tie
 
-low-requires : tie.Need-low-requires
-low-requires c κs = search needs
-
-low-requires-2 : tie.Need-low-requires-2
-low-requires-2 c κs = search needs
-
-end-requires : tie.Need-end-requires
-end-requires c κs = search needs
-
-link-requires : tie.Need-link-requires
-link-requires c κs = search needs
-
-capital-or-digit-requires : tie.Need-capital-or-digit-requires
-capital-or-digit-requires c κs = search needs
-
-capital-or-digit-requires-2 : tie.Need-capital-or-digit-requires-2
-capital-or-digit-requires-2 c κs = search needs
-
 returns : tie.Need-returns
 unfolding isSpelt
 returns c =
@@ -35,10 +17,10 @@ pub is-spelt-spec : {M : Type 1} → statement M
 is-spelt-spec =
     tie.close
     (tie.spec
-    low-requires
-    low-requires-2
-    end-requires
-    link-requires
-    capital-or-digit-requires
-    capital-or-digit-requires-2
+    (λ c κs. search needs)
+    (λ c κs. search needs)
+    (λ c κs. search needs)
+    (λ c κs. search needs)
+    (λ c κs. search needs)
+    (λ c κs. search needs)
     returns)

@@ -8,22 +8,10 @@ use borrow.Author.Needs.{needs}
 use Rattle.console.proofs.references.reference.Statement.{statement}
 use Rattle.console.proofs.references.reference.Tie as tie
 
-decimal-requires : tie.Need-decimal-requires
-decimal-requires c κs = search needs
-
 returns : tie.Need-returns
 returns c =
     let s = c .before .before .before in
     c .decimal .ensures ∙ said-decimal (now (s .args .f)) (rw (ne-eqb _ 4 (c .before .if1 .taken)) refl)
-
-word-requires : tie.Need-word-requires
-word-requires c κs = search needs
-
-is-spelt-requires : tie.Need-is-spelt-requires
-is-spelt-requires c κs = search needs
-
-cast-result : tie.Need-cast-result
-cast-result c = search needs
 
 returns-2 : tie.Need-returns-2
 returns-2 c =
@@ -31,9 +19,6 @@ returns-2 c =
     let f = now (w .before .before .before .args .f) in
     w .word .ensures
     ∙ said-spelt f (rw (eq-eqb _ 4 (w .before .if1 .left)) (ap isSpelt (sym (w .word .ensures)) ∙ sym (c .before .is-spelt .ensures) ∙ c .if2 .taken))
-
-decimal-requires-2 : tie.Need-decimal-requires-2
-decimal-requires-2 c κs = search needs
 
 returns-3 : tie.Need-returns-3
 returns-3 c =
@@ -46,11 +31,11 @@ pub reference-spec : {M : Type 1} → statement M
 reference-spec =
     tie.close
     (tie.spec
-    decimal-requires
+    (λ c κs. search needs)
     returns
-    word-requires
-    is-spelt-requires
-    cast-result
+    (λ c κs. search needs)
+    (λ c κs. search needs)
+    (λ c. search needs)
     returns-2
-    decimal-requires-2
+    (λ c κs. search needs)
     returns-3)

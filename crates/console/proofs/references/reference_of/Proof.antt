@@ -11,9 +11,6 @@ use Rattle.console.proofs.references.reference_of.Tie as tie
 told : (c : tie.After-reference) → c .reference .result ≡ referenceOf (now (c .before .before .args .f))
 told c = c .reference .ensures ∙ rw (c .before .before .pre) refl
 
-reference-requires : tie.Need-reference-requires
-reference-requires c κs = search needs
-
 cast-t3 : tie.Need-cast-t3
 cast-t3 c =
     let s = c .before in
@@ -23,4 +20,4 @@ returns : tie.Need-returns
 returns c = told c
 
 pub reference-of-spec : {M : Type 1} → statement M
-reference-of-spec = tie.close (tie.spec reference-requires cast-t3 returns)
+reference-of-spec = tie.close (tie.spec (λ c κs. search needs) cast-t3 returns)

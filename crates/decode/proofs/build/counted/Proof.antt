@@ -15,12 +15,6 @@ Inv-loop s slots l₀ q₀ l q = (q ≤ slots) × Counted s q l
 abbrev μ-loop : tie.MeasureT-loop
 μ-loop s slots l₀ q₀ l q = slots - q
 
-sets-requires : tie.Need-sets-requires Inv-loop μ-loop
-sets-requires c κs = search needs
-
-mul-slots : tie.Need-mul-slots Inv-loop μ-loop
-mul-slots c = search needs
-
 loop-holds : tie.Need-loop-holds Inv-loop μ-loop
 loop-holds c = (search needs, counted-none (now (c .before .before .args .s)))
 
@@ -28,12 +22,6 @@ step-requires : tie.Need-step-requires Inv-loop μ-loop
 step-requires c κs =
     let l = c .before in
     (l .before .before .before .pre, (rw (l .before .sets .ensures) at (c .loop-test .taken), l .loop .inv .1))
-
-add-q : tie.Need-add-q Inv-loop μ-loop
-add-q c = search needs
-
-loop-less : tie.Need-loop-less Inv-loop μ-loop
-loop-less c = search needs
 
 loop-again : tie.Need-loop-again Inv-loop μ-loop
 loop-again c = (search needs, c .step .ensures)
@@ -50,11 +38,11 @@ counted-spec =
     (tie.spec
     Inv-loop
     μ-loop
-    sets-requires
-    mul-slots
+    (λ c κs. search needs)
+    (λ c. search needs)
     loop-holds
     step-requires
-    add-q
-    loop-less
+    (λ c. search needs)
+    (λ c. search needs)
     loop-again
     returns)

@@ -13,8 +13,5 @@ laid-out-requires c κs =
     let s = c .before .before in
     (formed (now (s .args .s)) (s .pre), (s .pre, c .counted .ensures))
 
-returns : tie.Need-returns
-returns c = search needs
-
 pub decoded-spec : {M : Type 1} → statement M
-decoded-spec = tie.close (tie.spec counted-requires laid-out-requires returns)
+decoded-spec = tie.close (tie.spec counted-requires laid-out-requires (λ c. search needs))

@@ -30,12 +30,6 @@ past-key-requires c κs =
     let s = c .before .before .before .before in
     omega (arith, s .pre .0 .set (s .args .i) (s .pre .1 .0) .few)
 
-add-k : tie.Need-add-k Inv-loop μ-loop
-add-k c = search needs
-
-loop-less : tie.Need-loop-less Inv-loop μ-loop
-loop-less c = search needs
-
 loop-again : tie.Need-loop-again Inv-loop μ-loop
 loop-again c =
     let l = c .before .before .before in
@@ -57,7 +51,7 @@ key-place-spec =
     loop-holds
     key-length-requires
     past-key-requires
-    add-k
-    loop-less
+    (λ c. search needs)
+    (λ c. search needs)
     loop-again
     returns)

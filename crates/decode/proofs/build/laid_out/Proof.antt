@@ -15,12 +15,6 @@ Inv-loop s l sets entries₀ first₀ i₀ entries first i = (i ≤ sets) × (se
 abbrev μ-loop : tie.MeasureT-loop
 μ-loop s l sets entries₀ first₀ i₀ entries first i = sets - i
 
-sets-requires : tie.Need-sets-requires Inv-loop μ-loop
-sets-requires c κs = search needs
-
-no-entry-requires : tie.Need-no-entry-requires Inv-loop μ-loop
-no-entry-requires c κs = search needs
-
 loop-holds : tie.Need-loop-holds Inv-loop μ-loop
 loop-holds c =
     let s = c .before .before .before in
@@ -31,9 +25,6 @@ set-requires c κs =
     let l = c .before in
     let s = l .before .before .before .before in
     (s .pre .0, (rw (l .before .before .sets .ensures) at (c .loop-test .taken), (s .pre .1 .1, l .loop .inv .2 .next)))
-
-refused-requires : tie.Need-refused-requires Inv-loop μ-loop
-refused-requires c κs = search needs
 
 returns : tie.Need-returns Inv-loop μ-loop
 returns c =
@@ -49,30 +40,12 @@ blocks-held-requires c κs =
     let s = l .before .before .before .before in
     blocks-ready (now (s .args .s)) (l .loop .i) (k .set .ensures) (s .pre .0) (rw (l .before .before .sets .ensures) at (k .before .loop-test .taken)) (omega arith)
 
-add-first : tie.Need-add-first Inv-loop μ-loop
-add-first c = search needs
-
-mul-entries : tie.Need-mul-entries Inv-loop μ-loop
-mul-entries c = search needs
-
-array-set-from-entries : tie.Need-array-set-from-entries Inv-loop μ-loop
-array-set-from-entries c = search needs
-
-add-i : tie.Need-add-i Inv-loop μ-loop
-add-i c = search needs
-
-loop-less : tie.Need-loop-less Inv-loop μ-loop
-loop-less c = search needs
-
 loop-again : tie.Need-loop-again Inv-loop μ-loop
 loop-again c =
     let k = c .before .before .before in
     let l = k .before .before in
     let s = l .before .before .before .before in
     (search needs, search needs, laid-next (now (s .args .s)) (l .loop .i) (k .set .ensures) (l .loop .inv .2) (omega arith) (omega arith) (c .blocks-held .ensures))
-
-refused-requires-2 : tie.Need-refused-requires-2 Inv-loop μ-loop
-refused-requires-2 c κs = search needs
 
 returns-2 : tie.Need-returns-2 Inv-loop μ-loop
 returns-2 c =
@@ -82,15 +55,9 @@ returns-2 c =
     let d : LaidOut s (setsOf s) (l .loop .first) (l .loop .entries) = rw e at (l .loop .inv .2) in
     too-many s d (omega arith) (c .refused2 .ensures)
 
-shared-slice-read-t17 : tie.Need-shared-slice-read-t17 Inv-loop μ-loop
-shared-slice-read-t17 c = search needs
-
-shared-slice-read-t19 : tie.Need-shared-slice-read-t19 Inv-loop μ-loop
-shared-slice-read-t19 c = search needs
-
 returns-3 : tie.Need-returns-3 Inv-loop μ-loop
 returns-3 c =
-    let l = c .before .before .before .before in
+    let l = c .before .before .before .before .before in
     let s = now (l .before .before .before .before .args .s) in
     let e : l .loop .i ≡ setsOf s = omega arith in
     let d : LaidOut s (setsOf s) (l .loop .first) (l .loop .entries) = rw e at (l .loop .inv .2) in
@@ -102,21 +69,22 @@ laid-out-spec =
     (tie.spec
     Inv-loop
     μ-loop
-    sets-requires
-    no-entry-requires
+    (λ c κs. search needs)
+    (λ c κs. search needs)
     loop-holds
     set-requires
-    refused-requires
+    (λ c κs. search needs)
     returns
     blocks-held-requires
-    add-first
-    mul-entries
-    array-set-from-entries
-    add-i
-    loop-less
+    (λ c. search needs)
+    (λ c. search needs)
+    (λ c. search needs)
+    (λ c. search needs)
+    (λ c. search needs)
     loop-again
-    refused-requires-2
+    (λ c κs. search needs)
     returns-2
-    shared-slice-read-t17
-    shared-slice-read-t19
+    (λ c. search needs)
+    (λ c. search needs)
+    (λ c. search needs)
     returns-3)

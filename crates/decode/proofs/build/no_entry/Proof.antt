@@ -4,11 +4,8 @@ use borrow.Author.Needs.{needs}
 use Rattle.decode.proofs.build.no_entry.Tie as tie
 use Rattle.decode.proofs.build.no_entry.Statement.{statement}
 
-no-path-requires : tie.Need-no-path-requires
-no-path-requires c κs = search needs
-
 returns : tie.Need-returns
 returns c = rw (c .no-path .ensures) refl
 
 pub no-entry-spec : {M : Type 1} → statement M
-no-entry-spec = tie.close (tie.spec no-path-requires returns)
+no-entry-spec = tie.close (tie.spec (λ c κs. search needs) returns)

@@ -18,29 +18,11 @@ Inv-loop s i l count paths₀ j₀ paths j = (j ≤ count) × (count ≤ 4) × (
 abbrev μ-loop : tie.MeasureT-loop
 μ-loop s i l count paths₀ j₀ paths j = count - j
 
-paths-requires : tie.Need-paths-requires Inv-loop μ-loop
-paths-requires c κs = search needs
-
-no-path-requires : tie.Need-no-path-requires Inv-loop μ-loop
-no-path-requires c κs = search needs
-
 loop-holds : tie.Need-loop-holds Inv-loop μ-loop
 loop-holds c =
     let s = c .before .before .before in
     let few = s .pre .0 .set (s .args .i) (s .pre .1 .0) .few in
     (search needs, rw (c .before .paths .ensures) few, omega (arith, s .pre .0 .head, s .pre .1 .0), search needs, rw (c .no-path .ensures) refl)
-
-mul-q : tie.Need-mul-q Inv-loop μ-loop
-mul-q c = search needs
-
-add-q : tie.Need-add-q Inv-loop μ-loop
-add-q c = search needs
-
-element-copy-out-n : tie.Need-element-copy-out-n Inv-loop μ-loop
-element-copy-out-n c = search needs
-
-key-place-requires : tie.Need-key-place-requires Inv-loop μ-loop
-key-place-requires c κs = search needs
 
 path-requires : tie.Need-path-requires Inv-loop μ-loop
 path-requires c κs =
@@ -50,18 +32,6 @@ path-requires c κs =
     let h : l .loop .j < countOf (now (a .s)) (a .i) = rw (l .before .before .paths .ensures) at (c .before .before .loop-test .taken) in
     let p = path-at (now (a .s)) (a .i) (l .loop .j) (s .pre .0) (s .pre .1 .0) h in
     (p, (c .key-place .ensures, path-number (now (a .s)) (a .i) (l .loop .j) (a .t3) (s .pre .1 .1) (s .pre .1 .0) h (p .slot)))
-
-mul-paths : tie.Need-mul-paths Inv-loop μ-loop
-mul-paths c = search needs
-
-array-set-from-paths : tie.Need-array-set-from-paths Inv-loop μ-loop
-array-set-from-paths c = search needs
-
-add-j : tie.Need-add-j Inv-loop μ-loop
-add-j c = search needs
-
-loop-less : tie.Need-loop-less Inv-loop μ-loop
-loop-less c = search needs
 
 loop-again : tie.Need-loop-again Inv-loop μ-loop
 loop-again c =
@@ -83,17 +53,17 @@ paths-spec =
     (tie.spec
     Inv-loop
     μ-loop
-    paths-requires
-    no-path-requires
+    (λ c κs. search needs)
+    (λ c κs. search needs)
     loop-holds
-    mul-q
-    add-q
-    element-copy-out-n
-    key-place-requires
+    (λ c. search needs)
+    (λ c. search needs)
+    (λ c. search needs)
+    (λ c κs. search needs)
     path-requires
-    mul-paths
-    array-set-from-paths
-    add-j
-    loop-less
+    (λ c. search needs)
+    (λ c. search needs)
+    (λ c. search needs)
+    (λ c. search needs)
     loop-again
     returns)

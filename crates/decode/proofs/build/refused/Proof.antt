@@ -4,11 +4,8 @@ use borrow.Author.Needs.{needs}
 use Rattle.decode.proofs.build.refused.Tie as tie
 use Rattle.decode.proofs.build.refused.Statement.{statement}
 
-no-entry-requires : tie.Need-no-entry-requires
-no-entry-requires c κs = search needs
-
 returns : tie.Need-returns
 returns c = rw (c .no-entry .ensures) refl
 
 pub refused-spec : {M : Type 1} → statement M
-refused-spec = tie.close (tie.spec no-entry-requires returns)
+refused-spec = tie.close (tie.spec (λ c κs. search needs) returns)

@@ -20,22 +20,13 @@ low c =
     let m = slot-master (now (a .s)) (a .q) f (l .before .before .pre .1 .0) t in
     rw (c .master-of .ensures) (omega (arith, m, f .head))
 
-used-requires : tie.Need-used-requires
-used-requires c κs = search needs
-
 returns : tie.Need-returns
 returns c =
     let s = c .before .before .before in
     counted-unused (now (s .args .s)) (s .args .q) (s .args .l) (s .pre .1 .1) (c .before .used .ensures) (c .if1 .taken)
 
-master-of-requires : tie.Need-master-of-requires
-master-of-requires c κs = search needs
-
 array-read-n : tie.Need-array-read-n
 array-read-n c = omega (arith, low (c .before .before))
-
-array-write-number : tie.Need-array-write-number
-array-write-number c = search needs
 
 add-total : tie.Need-add-total
 add-total c =
@@ -57,11 +48,11 @@ pub step-spec : {M : Type 1} → statement M
 step-spec =
     tie.close
     (tie.spec
-    used-requires
+    (λ c κs. search needs)
     returns
-    master-of-requires
+    (λ c κs. search needs)
     array-read-n
-    array-write-number
+    (λ c. search needs)
     add-total
     array-write-total
     returns-2)

@@ -5,108 +5,6 @@ use borrow.Author.Needs.{needs}
 use Rattle.forms.proofs.Rungs.of.Statement.{statement}
 use Rattle.forms.proofs.Rungs.of.Tie as tie
 
-enum-told : tie.Need-enum-told
-enum-told c = search needs
-
-row-requires : tie.Need-row-requires
-row-requires c κs = search needs
-
-enum-told-2 : tie.Need-enum-told-2
-enum-told-2 c = search needs
-
-row-requires-2 : tie.Need-row-requires-2
-row-requires-2 c κs = search needs
-
-enum-told-3 : tie.Need-enum-told-3
-enum-told-3 c = search needs
-
-row-requires-3 : tie.Need-row-requires-3
-row-requires-3 c κs = search needs
-
-enum-told-4 : tie.Need-enum-told-4
-enum-told-4 c = search needs
-
-row-requires-4 : tie.Need-row-requires-4
-row-requires-4 c κs = search needs
-
-enum-told-5 : tie.Need-enum-told-5
-enum-told-5 c = search needs
-
-row-requires-5 : tie.Need-row-requires-5
-row-requires-5 c κs = search needs
-
-enum-told-6 : tie.Need-enum-told-6
-enum-told-6 c = search needs
-
-row-requires-6 : tie.Need-row-requires-6
-row-requires-6 c κs = search needs
-
-enum-told-7 : tie.Need-enum-told-7
-enum-told-7 c = search needs
-
-row-requires-7 : tie.Need-row-requires-7
-row-requires-7 c κs = search needs
-
-enum-told-8 : tie.Need-enum-told-8
-enum-told-8 c = search needs
-
-row-requires-8 : tie.Need-row-requires-8
-row-requires-8 c κs = search needs
-
-enum-told-9 : tie.Need-enum-told-9
-enum-told-9 c = search needs
-
-row-requires-9 : tie.Need-row-requires-9
-row-requires-9 c κs = search needs
-
-enum-told-10 : tie.Need-enum-told-10
-enum-told-10 c = search needs
-
-row-requires-10 : tie.Need-row-requires-10
-row-requires-10 c κs = search needs
-
-enum-told-11 : tie.Need-enum-told-11
-enum-told-11 c = search needs
-
-row-requires-11 : tie.Need-row-requires-11
-row-requires-11 c κs = search needs
-
-enum-told-12 : tie.Need-enum-told-12
-enum-told-12 c = search needs
-
-row-requires-12 : tie.Need-row-requires-12
-row-requires-12 c κs = search needs
-
-enum-told-13 : tie.Need-enum-told-13
-enum-told-13 c = search needs
-
-row-requires-13 : tie.Need-row-requires-13
-row-requires-13 c κs = search needs
-
-enum-told-14 : tie.Need-enum-told-14
-enum-told-14 c = search needs
-
-row-requires-14 : tie.Need-row-requires-14
-row-requires-14 c κs = search needs
-
-enum-told-15 : tie.Need-enum-told-15
-enum-told-15 c = search needs
-
-row-requires-15 : tie.Need-row-requires-15
-row-requires-15 c κs = search needs
-
-enum-told-16 : tie.Need-enum-told-16
-enum-told-16 c = search needs
-
-row-requires-16 : tie.Need-row-requires-16
-row-requires-16 c κs = search needs
-
-enum-told-17 : tie.Need-enum-told-17
-enum-told-17 c = search needs
-
-row-requires-17 : tie.Need-row-requires-17
-row-requires-17 c κs = search needs
-
 returns : tie.Need-returns
 returns c = c .row .ensures ∙ sym (ap rungsOf (c .before .enum-told .given .1))
 
@@ -162,40 +60,40 @@ pub of-spec : {M : Type 1} → statement M
 of-spec =
     tie.close
     (tie.spec
-    enum-told
-    row-requires
-    enum-told-2
-    row-requires-2
-    enum-told-3
-    row-requires-3
-    enum-told-4
-    row-requires-4
-    enum-told-5
-    row-requires-5
-    enum-told-6
-    row-requires-6
-    enum-told-7
-    row-requires-7
-    enum-told-8
-    row-requires-8
-    enum-told-9
-    row-requires-9
-    enum-told-10
-    row-requires-10
-    enum-told-11
-    row-requires-11
-    enum-told-12
-    row-requires-12
-    enum-told-13
-    row-requires-13
-    enum-told-14
-    row-requires-14
-    enum-told-15
-    row-requires-15
-    enum-told-16
-    row-requires-16
-    enum-told-17
-    row-requires-17
+    (λ c. search needs)
+    (λ c κs. search needs)
+    (λ c. search needs)
+    (λ c κs. search needs)
+    (λ c. search needs)
+    (λ c κs. search needs)
+    (λ c. search needs)
+    (λ c κs. search needs)
+    (λ c. search needs)
+    (λ c κs. search needs)
+    (λ c. search needs)
+    (λ c κs. search needs)
+    (λ c. search needs)
+    (λ c κs. search needs)
+    (λ c. search needs)
+    (λ c κs. search needs)
+    (λ c. search needs)
+    (λ c κs. search needs)
+    (λ c. search needs)
+    (λ c κs. search needs)
+    (λ c. search needs)
+    (λ c κs. search needs)
+    (λ c. search needs)
+    (λ c κs. search needs)
+    (λ c. search needs)
+    (λ c κs. search needs)
+    (λ c. search needs)
+    (λ c κs. search needs)
+    (λ c. search needs)
+    (λ c κs. search needs)
+    (λ c. search needs)
+    (λ c κs. search needs)
+    (λ c. search needs)
+    (λ c κs. search needs)
     returns
     returns-2
     returns-3

@@ -23,9 +23,6 @@ asked : (c : tie.After-held-by-own) (t : Bool) → c .held-by-own .result ≡ t
     → heldByOwn (now (c .before .before .before .args .base)) (c .before .before .before .args .e) (homeIn (c .before .before .before .args .e) (keyOf (c .before .before .before .args .k))) ≡ t
 asked c t h = rw (c .before .home .ensures) at (sym (c .held-by-own .ensures) ∙ h)
 
-home-requires : tie.Need-home-requires
-home-requires c κs = search needs
-
 held-by-own-requires : tie.Need-held-by-own-requires
 held-by-own-requires c κs = let s = c .before .before in (s .pre .0, (s .pre .1 .0, here c))
 
@@ -53,4 +50,4 @@ returns-2 c =
 
 pub find-spec : {M : Type 1} → statement M
 find-spec =
-    tie.close (tie.spec home-requires held-by-own-requires returns seek-from-requires returns-2)
+    tie.close (tie.spec (λ c κs. search needs) held-by-own-requires returns seek-from-requires returns-2)

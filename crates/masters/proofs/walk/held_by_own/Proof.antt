@@ -3,14 +3,8 @@ use borrow.Author.Needs.{needs}
 use Rattle.masters.proofs.walk.held_by_own.Statement.{statement}
 use Rattle.masters.proofs.walk.held_by_own.Tie as tie
 
-is-live-requires : tie.Need-is-live-requires
-is-live-requires c κs = search needs
-
-own-home-requires : tie.Need-own-home-requires
-own-home-requires c κs = search needs
-
 returns : tie.Need-returns
 returns c = rw (c .before .before .before .is-live .ensures, c .before .before .own-home .ensures)
 
 pub held-by-own-spec : {M : Type 1} → statement M
-held-by-own-spec = tie.close (tie.spec is-live-requires own-home-requires returns)
+held-by-own-spec = tie.close (tie.spec (λ c κs. search needs) (λ c κs. search needs) returns)

@@ -5,17 +5,8 @@ use Rattle.masters.specs.Find.{homeIn}
 use Rattle.masters.proofs.walk.own_home.Statement.{statement}
 use Rattle.masters.proofs.walk.own_home.Tie as tie
 
-cast-key-in : tie.Need-cast-key-in
-cast-key-in c = search needs
-
-key-in-requires : tie.Need-key-in-requires
-key-in-requires c κs = search needs
-
-home-requires : tie.Need-home-requires
-home-requires c κs = search needs
-
 returns : tie.Need-returns
 returns c = c .home .ensures ∙ ap (homeIn (c .before .before .before .before .args .e)) (c .before .key-in .ensures .0)
 
 pub own-home-spec : {M : Type 1} → statement M
-own-home-spec = tie.close (tie.spec cast-key-in key-in-requires home-requires returns)
+own-home-spec = tie.close (tie.spec (λ c. search needs) (λ c κs. search needs) (λ c κs. search needs) returns)

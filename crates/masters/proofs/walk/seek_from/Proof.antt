@@ -41,19 +41,10 @@ goes c =
 loop-holds : tie.Need-loop-holds Inv-loop μ-loop
 loop-holds c = (search needs, rw sub-zero, rw sub-zero)
 
-step-requires : tie.Need-step-requires Inv-loop μ-loop
-step-requires c κs = search needs
-
-enum-known-r : tie.Need-enum-known-r Inv-loop μ-loop
-enum-known-r c = search needs
-
 returns : tie.Need-returns Inv-loop μ-loop
 returns c =
     let s = c .before .before .before in
     (rw (c .before .r .given .1) at (turned s), refl)
-
-enum-told : tie.Need-enum-told Inv-loop μ-loop
-enum-told c = search needs
 
 returns-2 : tie.Need-returns-2 Inv-loop μ-loop
 returns-2 c =
@@ -62,16 +53,10 @@ returns-2 c =
     let t = walk-ends (now (a .base)) (a .e) (keyOf (a .k)) (s .before .loop .w) (sym (s .step .ensures) ∙ c .enum-told .given .1) in
     (rw (c .enum-told .given .1) at (turned s), sym t ∙ s .before .loop .inv .2)
 
-enum-told-2 : tie.Need-enum-told-2 Inv-loop μ-loop
-enum-told-2 c = search needs
-
 returns-3 : tie.Need-returns-3 Inv-loop μ-loop
 returns-3 c =
     let s = c .before .before in
     (rw (c .enum-told2 .given .1) at (turned s), refl)
-
-enum-known-n : tie.Need-enum-known-n Inv-loop μ-loop
-enum-known-n c = search needs
 
 loop-less : tie.Need-loop-less Inv-loop μ-loop
 loop-less c = omega (arith, goes (c .before))
@@ -89,13 +74,13 @@ seek-from-spec =
     Inv-loop
     μ-loop
     loop-holds
-    step-requires
-    enum-known-r
+    (λ c κs. search needs)
+    (λ c. search needs)
     returns
-    enum-told
+    (λ c. search needs)
     returns-2
-    enum-told-2
+    (λ c. search needs)
     returns-3
-    enum-known-n
+    (λ c. search needs)
     loop-less
     loop-again)

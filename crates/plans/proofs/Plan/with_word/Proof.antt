@@ -8,15 +8,6 @@ use borrow.Author.Needs.{needs}
 use Rattle.plans.proofs.Plan.with_word.Statement.{statement}
 use Rattle.plans.proofs.Plan.with_word.Tie as tie
 
-mul-w : tie.Need-mul-w
-mul-w c = search needs
-
-element-set-from-w : tie.Need-element-set-from-w
-element-set-from-w c = search needs
-
-add-p : tie.Need-add-p
-add-p c = search needs
-
 returns : tie.Need-returns
 returns c =
     let p = c .args .self in
@@ -24,4 +15,4 @@ returns c =
     (refl, rw add-one (take-suc-set (p .words) (p .count) _ h))
 
 pub with-word-spec : {M : Type 1} → statement M
-with-word-spec = tie.close (tie.spec mul-w element-set-from-w add-p returns)
+with-word-spec = tie.close (tie.spec (λ c. search needs) (λ c. search needs) (λ c. search needs) returns)

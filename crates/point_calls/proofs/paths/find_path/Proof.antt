@@ -10,34 +10,16 @@ use borrow.Author.Needs.{needs}
 use Rattle.point_calls.proofs.paths.find_path.Statement.{statement}
 use Rattle.point_calls.proofs.paths.find_path.Tie as tie
 
-set-named-requires : tie.Need-set-named-requires
-set-named-requires c κs = search needs
-
-sets-requires : tie.Need-sets-requires
-sets-requires c κs = search needs
-
-entry-of-requires : tie.Need-entry-of-requires
-entry-of-requires c κs = search needs
-
-nowhere-requires : tie.Need-nowhere-requires
-nowhere-requires c κs = search needs
-
 returns : tie.Need-returns
 returns c =
     let b = c .before .before .before .before .before in
     rw (← c .before .entry-of .ensures, ← b .set-named .ensures, le-ltb _ _ (rw (c .before .before .before .before .sets .ensures) at (c .before .before .if1 .taken))) (c .nowhere .ensures)
 
 -- the number is one of the schema's sets
-within : (d : tie.After-entry-of2) → (let n = d .before .before .before .before in ltb (n .set-named .result .0) (setCount (n .before .before .before .before .before .args .t)) ≡ true)
+within : (d : tie.After-entry-of2) → (let n = d .before .before .before .before in ltb (n .set-named .result .0) (setCount (n .before .before .before .args .t)) ≡ true)
 within d =
     let n = d .before .before .before .before in
-    lt-ltb (n .set-named .result .0) (setCount (n .before .before .before .before .before .args .t)) (omega (arith, d .before .if1 .left, d .before .before .before .sets .ensures))
-
-entry-of-requires-2 : tie.Need-entry-of-requires-2
-entry-of-requires-2 c κs = search needs
-
-nowhere-requires-2 : tie.Need-nowhere-requires-2
-nowhere-requires-2 c κs = search needs
+    lt-ltb (n .set-named .result .0) (setCount (n .before .before .before .args .t)) (omega (arith, d .before .if1 .left, d .before .before .before .sets .ensures))
 
 returns-2 : tie.Need-returns-2
 returns-2 c =
@@ -49,7 +31,7 @@ on-path-requires : tie.Need-on-path-requires
 on-path-requires c κs =
     let d = c .before .before in
     let n = d .before .before .before .before in
-    let s = n .before .before .before .before .before in (
+    let s = n .before .before .before in (
       s .pre .0,
       (
         (
@@ -70,13 +52,13 @@ pub find-path-spec : {M : Type 1} → statement M
 find-path-spec =
     tie.close
     (tie.spec
-    set-named-requires
-    sets-requires
-    entry-of-requires
-    nowhere-requires
+    (λ c κs. search needs)
+    (λ c κs. search needs)
+    (λ c κs. search needs)
+    (λ c κs. search needs)
     returns
-    entry-of-requires-2
-    nowhere-requires-2
+    (λ c κs. search needs)
+    (λ c κs. search needs)
     returns-2
     on-path-requires
     returns-3)

@@ -2,14 +2,8 @@ use borrow.Author.Needs.{needs}
 use Rattle.point_calls.proofs.reads.pointer_on.Statement.{statement}
 use Rattle.point_calls.proofs.reads.pointer_on.Tie as tie
 
-last-on-requires : tie.Need-last-on-requires
-last-on-requires c κs = search needs
-
 returns : tie.Need-returns
 returns c = rw (c .last-on .ensures, c .before .before .if1 .taken, c .before .if2 .taken)
-
-first-on-requires : tie.Need-first-on-requires
-first-on-requires c κs = search needs
 
 returns-2 : tie.Need-returns-2
 returns-2 c = rw (c .first-on .ensures, c .before .before .if1 .taken, c .before .if2 .left)
@@ -34,9 +28,9 @@ pub pointer-on-spec : {M : Type 1} → statement M
 pointer-on-spec =
     tie.close
     (tie.spec
-    last-on-requires
+    (λ c κs. search needs)
     returns
-    first-on-requires
+    (λ c κs. search needs)
     returns-2
     prior-on-requires
     returns-3

@@ -12,35 +12,26 @@ use borrow.Author.Needs.{needs}
 use Rattle.point_calls.proofs.reads.read_damaged.Statement.{statement}
 use Rattle.point_calls.proofs.reads.read_damaged.Tie as tie
 
-record-of-requires : tie.Need-record-of-requires
-record-of-requires c κs = search needs
-
-cast-uneven-ends : tie.Need-cast-uneven-ends
-cast-uneven-ends c = search needs
-
 uneven-ends-requires : tie.Need-uneven-ends-requires
 uneven-ends-requires c κs =
     let d = c .before in
-    let s = d .before .before in
-    rw (ap length (d .record-of .ensures) ∙ record-length (now (s .args .base)) (s .args .x) (s .args .m .0) (s .pre .0 .masters .lies) (s .pre .1 .0)) (s .pre .0 .masters .link)
-
-bad-neighbour-requires : tie.Need-bad-neighbour-requires
-bad-neighbour-requires c κs = search needs
+    let s = d .before .before .before in
+    rw (ap length (d .record-of .ensures) ∙ record-length (now (s .args .base)) (s .args .l .masters) (s .args .m .0) (s .pre .0 .masters .lies) (s .pre .1 .0)) (s .pre .0 .masters .link)
 
 returns : tie.Need-returns
 unfolding readDamaged
 returns c =
     let d = c .before .before .before in
-    let s = d .before .before in
+    let s = d .before .before .before in
     let a = s .args in
-    rw (c .bad-neighbour .ensures, c .before .uneven-ends .ensures ∙ ap (λ (r : List ℕ). unevenAt r (a .p .link)) (d .record-of .ensures) ∙ uneven-from (a .x) (a .p) (a .m .0) (s .pre .0 .masters .link) (now (a .base)))
+    rw (c .bad-neighbour .ensures, c .before .uneven-ends .ensures ∙ ap (λ (r : List ℕ). unevenAt r (a .l .path .link)) (d .record-of .ensures) ∙ uneven-from (a .l .masters) (a .l .path) (a .m .0) (s .pre .0 .masters .link) (now (a .base)))
 
 pub read-damaged-spec : {M : Type 1} → statement M
 read-damaged-spec =
     tie.close
     (tie.spec
-    record-of-requires
-    cast-uneven-ends
+    (λ c κs. search needs)
+    (λ c. search needs)
     uneven-ends-requires
-    bad-neighbour-requires
+    (λ c κs. search needs)
     returns)

@@ -18,12 +18,6 @@ seek-requires c κs =
     let s = c .before .before .before .before in
     (reached (s .pre .0), (c .of .ensures .1 ∙ s .pre .1 .0, λ h. s .pre .1 .1 .1))
 
-number-requires : tie.Need-number-requires
-number-requires c κs = search needs
-
-ended-requires : tie.Need-ended-requires
-ended-requires c κs = search needs
-
 returns : tie.Need-returns
 returns c =
     rw (c .ended .ensures .0, c .ended .ensures .1)
@@ -33,9 +27,6 @@ give-requires : tie.Need-give-requires
 give-requires c κs =
     let s = c .before .before .before .before .before .before .before .before in
     (reached (s .pre .0) .points .lies, (reached (s .pre .0) .points .fields, (s .pre .1 .1 .1 .1, search needs)))
-
-same-length : tie.Need-same-length
-same-length c = search needs
 
 returns-2 : tie.Need-returns-2
 returns-2 c =
@@ -48,9 +39,9 @@ readd-spec =
     (tie.spec
     of-requires
     seek-requires
-    number-requires
-    ended-requires
+    (λ c κs. search needs)
+    (λ c κs. search needs)
     returns
     give-requires
-    same-length
+    (λ c. search needs)
     returns-2)

@@ -5,18 +5,6 @@ use borrow.Author.Needs.{needs}
 use Rattle.point_calls.proofs.sight.seek.Statement.{statement}
 use Rattle.point_calls.proofs.sight.seek.Tie as tie
 
-find-requires : tie.Need-find-requires
-find-requires c κs = search needs
-
-enum-told : tie.Need-enum-told
-enum-told c = search needs
-
-enum-told-2 : tie.Need-enum-told-2
-enum-told-2 c = search needs
-
-enum-known-found : tie.Need-enum-known-found
-enum-known-found c = search needs
-
 returns : tie.Need-returns
 unfolding seekStatus
 returns c = rw (sym (c .before .before .before .before .find .ensures .0) ∙ c .before .before .found .given .1, not-true (c .before .before .before .before .before .before .args .looks) (c .if1 .taken)) refl
@@ -46,10 +34,10 @@ pub seek-spec : {M : Type 1} → statement M
 seek-spec =
     tie.close
     (tie.spec
-    find-requires
-    enum-told
-    enum-told-2
-    enum-known-found
+    (λ c κs. search needs)
+    (λ c. search needs)
+    (λ c. search needs)
+    (λ c. search needs)
     returns
     is-point-requires
     returns-2

@@ -8,11 +8,5 @@ add-at-requires c κs =
     let s = c .before .before .before .before in
     (s .pre .0, (s .pre .1 .0, (s .pre .1 .1 .0, (s .pre .1 .1 .1 .0, spotted-before _ _ _ (s .pre .1 .1 .1 .1)))))
 
-same-length : tie.Need-same-length
-same-length c = search needs
-
-returns : tie.Need-returns
-returns c = search needs
-
 pub addvb-spec : {M : Type 1} → statement M
-addvb-spec = tie.close (tie.spec add-at-requires same-length returns)
+addvb-spec = tie.close (tie.spec add-at-requires (λ c. search needs) (λ c. search needs))

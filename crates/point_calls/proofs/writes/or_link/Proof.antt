@@ -4,17 +4,11 @@ use borrow.Author.Needs.{needs}
 use Rattle.point_calls.proofs.writes.or_link.Statement.{statement}
 use Rattle.point_calls.proofs.writes.or_link.Tie as tie
 
-reference-requires : tie.Need-reference-requires
-reference-requires c κs = search needs
-
 returns : tie.Need-returns
 returns c = rw (eq-eqb _ 0 (c .before .if1 .taken)) (c .reference .ensures .0)
-
-number-requires : tie.Need-number-requires
-number-requires c κs = search needs
 
 returns-2 : tie.Need-returns-2
 returns-2 c = rw (ne-eqb _ 0 (c .before .if1 .left)) (c .number .ensures)
 
 pub or-link-spec : {M : Type 1} → statement M
-or-link-spec = tie.close (tie.spec reference-requires returns number-requires returns-2)
+or-link-spec = tie.close (tie.spec (λ c κs. search needs) returns (λ c κs. search needs) returns-2)

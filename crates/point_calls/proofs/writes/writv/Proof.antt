@@ -20,15 +20,6 @@ seek-requires c κs =
     let s = c .before .before .before .before .before in
     (reached (s .pre .0), (c .before .of .ensures .1 ∙ s .pre .1 .0, λ h. s .pre .1 .1 .1))
 
-number-requires : tie.Need-number-requires
-number-requires c κs = search needs
-
-ended-requires : tie.Need-ended-requires
-ended-requires c κs = search needs
-
-same-length : tie.Need-same-length
-same-length c = search needs
-
 returns : tie.Need-returns
 returns c =
     rw (c .ended .ensures .0, c .ended .ensures .1)
@@ -39,27 +30,15 @@ other-stored-key-requires c κs =
     let s = c .before .before .before .before .before .before .before .before .before in
     (s .pre .1 .1 .1, (reached (s .pre .0) .points .lies, (reached (s .pre .0) .points .fields, (no-master (reached (s .pre .0) .points), s .pre .1 .1 .0))))
 
-ended-requires-2 : tie.Need-ended-requires-2
-ended-requires-2 c κs = search needs
-
-same-length-2 : tie.Need-same-length-2
-same-length-2 c = search needs
-
 returns-2 : tie.Need-returns-2
 returns-2 c =
     rw (c .ended2 .ensures .0, c .ended2 .ensures .1)
     (writv-refused _ _ _ _ _ _ _ _ (seen _ _ _ _ _ _ _ _ (c .before .before .before .before .before .before .seek .ensures) (c .before .before .before .before .before .before .before .before .of .ensures .0) (c .before .before .before .before .before .number .ensures) (c .before .before .before .before .if1 .left)) (sym (c .before .before .other-stored-key .ensures) ∙ c .before .if2 .taken))
 
-body-plan-requires : tie.Need-body-plan-requires
-body-plan-requires c κs = search needs
-
 settle-requires : tie.Need-settle-requires
 settle-requires c κs =
     let s = c .before .before .before .before .before .before .before .before .before .before .before .before .before in
     (reached (s .pre .0) .points .lies, (reached (s .pre .0) .points .fields, λ d. rw (c .before .body-plan .ensures) (body-ok _ (now (s .args .area)) _ _ (s .pre .1 .1 .1) (s .pre .1 .1 .0))))
-
-same-length-3 : tie.Need-same-length-3
-same-length-3 c = search needs
 
 returns-3 : tie.Need-returns-3
 returns-3 c =
@@ -72,15 +51,15 @@ writv-spec =
     (tie.spec
     of-requires
     seek-requires
-    number-requires
-    ended-requires
-    same-length
+    (λ c κs. search needs)
+    (λ c κs. search needs)
+    (λ c. search needs)
     returns
     other-stored-key-requires
-    ended-requires-2
-    same-length-2
+    (λ c κs. search needs)
+    (λ c. search needs)
     returns-2
-    body-plan-requires
+    (λ c κs. search needs)
     settle-requires
-    same-length-3
+    (λ c. search needs)
     returns-3)

@@ -18,31 +18,10 @@ Inv-loop base e src at owners links count k₀ k = (k ≤ count) × (count ≡ e
 abbrev μ-loop : tie.MeasureT-loop
 μ-loop base e src at owners links count k₀ k = count - k
 
-cast-count : tie.Need-cast-count Inv-loop μ-loop
-cast-count c = search needs
-
 loop-holds : tie.Need-loop-holds Inv-loop μ-loop
 unfolding allBelow
 loop-holds c =
     (omega arith, refl, c .before .before .before .pre .0 .few, refl)
-
-mul-from : tie.Need-mul-from Inv-loop μ-loop
-mul-from c = search needs
-
-array-read-from : tie.Need-array-read-from Inv-loop μ-loop
-array-read-from c = search needs
-
-mul-owner : tie.Need-mul-owner Inv-loop μ-loop
-mul-owner c = search needs
-
-array-copy-out-owner : tie.Need-array-copy-out-owner Inv-loop μ-loop
-array-copy-out-owner c = search needs
-
-mul-link : tie.Need-mul-link Inv-loop μ-loop
-mul-link c = search needs
-
-array-copy-out-link : tie.Need-array-copy-out-link Inv-loop μ-loop
-array-copy-out-link c = search needs
 
 damaged-on-requires : tie.Need-damaged-on-requires Inv-loop μ-loop
 damaged-on-requires c κs =
@@ -56,12 +35,6 @@ returns c =
     let l = c .before .before .before .before .before in
     let a = l .before .before .before .before .args in
     damaged-here (now (a .base)) (a .e) (now (a .src)) (a .t4) (a .t5) (a .t6) (l .loop .k) (c .before .before .before .before .loop-test .taken) (ap not (sym (c .before .damaged-on .ensures) ∙ c .if1 .taken))
-
-add-k : tie.Need-add-k Inv-loop μ-loop
-add-k c = search needs
-
-loop-less : tie.Need-loop-less Inv-loop μ-loop
-loop-less c = search needs
 
 loop-again : tie.Need-loop-again Inv-loop μ-loop
 loop-again c =
@@ -86,17 +59,17 @@ any-damaged-spec =
     (tie.spec
     Inv-loop
     μ-loop
-    cast-count
+    (λ c. search needs)
     loop-holds
-    mul-from
-    array-read-from
-    mul-owner
-    array-copy-out-owner
-    mul-link
-    array-copy-out-link
+    (λ c. search needs)
+    (λ c. search needs)
+    (λ c. search needs)
+    (λ c. search needs)
+    (λ c. search needs)
+    (λ c. search needs)
     damaged-on-requires
     returns
-    add-k
-    loop-less
+    (λ c. search needs)
+    (λ c. search needs)
     loop-again
     returns-2)

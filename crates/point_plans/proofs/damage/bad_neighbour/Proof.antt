@@ -16,9 +16,6 @@ returns-2 c =
     let a = c .before .before .before .before .args in
     bad-above (now (a .base)) (a .e) (a .p) (keyOf (a .key)) (a .n) (c .if2 .taken)
 
-is-point-requires : tie.Need-is-point-requires
-is-point-requires c κs = search needs
-
 returns-3 : tie.Need-returns-3
 returns-3 c =
     let d = c .before in
@@ -27,4 +24,4 @@ returns-3 c =
 
 pub bad-neighbour-spec : {M : Type 1} → statement M
 bad-neighbour-spec =
-    tie.close (tie.spec returns returns-2 is-point-requires returns-3)
+    tie.close (tie.spec returns returns-2 (λ c κs. search needs) returns-3)

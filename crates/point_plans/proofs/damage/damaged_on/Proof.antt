@@ -8,12 +8,6 @@ use Rattle.point_plans.specs.DamageLaws.{damaged-read}
 use Rattle.point_plans.proofs.damage.damaged_on.Statement.{statement}
 use Rattle.point_plans.proofs.damage.damaged_on.Tie as tie
 
-path-of-requires : tie.Need-path-of-requires
-path-of-requires c κs = search needs
-
-cast-part : tie.Need-cast-part
-cast-part c = search needs
-
 part-requires : tie.Need-part-requires
 part-requires c κs =
     let d = c .before in
@@ -39,4 +33,4 @@ returns c =
 
 pub damaged-on-spec : {M : Type 1} → statement M
 damaged-on-spec =
-    tie.close (tie.spec path-of-requires cast-part part-requires bytes-of-requires damaged-at-requires returns)
+    tie.close (tie.spec (λ c κs. search needs) (λ c. search needs) part-requires bytes-of-requires damaged-at-requires returns)

@@ -4,19 +4,10 @@ use Rattle.points.specs.Points.{neighboursAt}
 use Rattle.point_plans.proofs.links.neighbours_at.Statement.{statement}
 use Rattle.point_plans.proofs.links.neighbours_at.Tie as tie
 
-enum-told : tie.Need-enum-told
-enum-told c = search needs
-
-enum-known-spot : tie.Need-enum-known-spot
-enum-known-spot c = search needs
-
 next-on-requires : tie.Need-next-on-requires
 next-on-requires c κs =
     let s = c .before .before .before .before in
     ((rw (c .before .spot .given .1) at (s .pre .1 .1)), (s .pre .0, s .pre .1 .0))
-
-enum-known-spot-2 : tie.Need-enum-known-spot-2
-enum-known-spot-2 c = search needs
 
 prior-on-requires : tie.Need-prior-on-requires
 prior-on-requires c κs =
@@ -39,10 +30,10 @@ pub neighbours-at-spec : {M : Type 1} → statement M
 neighbours-at-spec =
     tie.close
     (tie.spec
-    enum-told
-    enum-known-spot
+    (λ c. search needs)
+    (λ c. search needs)
     next-on-requires
-    enum-known-spot-2
+    (λ c. search needs)
     prior-on-requires
     returns
     returns-2

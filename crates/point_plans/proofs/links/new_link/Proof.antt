@@ -22,17 +22,8 @@ long d =
 linked : (d : tie.After-bytes-of) → d .before .path-of .result .link + 8 ≤ d .before .before .before .args .owner .size
 linked d = rw (d .before .path-of .ensures) (d .before .before .before .pre .1 .1 .1 .link)
 
-path-of-requires : tie.Need-path-of-requires
-path-of-requires c κs = search needs
-
 bytes-of-requires : tie.Need-bytes-of-requires
 bytes-of-requires c κs = c .before .before .pre .1 .1 .1 .inside
-
-cast-word : tie.Need-cast-word
-cast-word c = search needs
-
-add-word : tie.Need-add-word
-add-word c = search needs
 
 word-requires : tie.Need-word-requires
 word-requires c κs = rw (long (c .before)) (omega (arith, linked (c .before)))
@@ -70,10 +61,10 @@ pub new-link-spec : {M : Type 1} → statement M
 new-link-spec =
     tie.close
     (tie.spec
-    path-of-requires
+    (λ c κs. search needs)
     bytes-of-requires
-    cast-word
-    add-word
+    (λ c. search needs)
+    (λ c. search needs)
     word-requires
     neighbours-at-requires
     returns

@@ -17,17 +17,8 @@ Inv-loop base e spot on owners count links₀ k₀ links k = (k ≤ count) × (c
 abbrev μ-loop : tie.MeasureT-loop
 μ-loop base e spot on owners count links₀ k₀ links k = count - k
 
-cast-count : tie.Need-cast-count Inv-loop μ-loop
-cast-count c = search needs
-
 loop-holds : tie.Need-loop-holds Inv-loop μ-loop
 loop-holds c = (omega arith, refl, c .before .before .pre .0 .few, refl, refl, refl)
-
-mul-owner : tie.Need-mul-owner Inv-loop μ-loop
-mul-owner c = search needs
-
-array-copy-out-owner : tie.Need-array-copy-out-owner Inv-loop μ-loop
-array-copy-out-owner c = search needs
 
 new-link-requires : tie.Need-new-link-requires Inv-loop μ-loop
 new-link-requires c κs =
@@ -35,18 +26,6 @@ new-link-requires c κs =
     let s = l .before .before .before in
     let h = c .before .loop-test .taken in
     (s .pre .0, (s .pre .1 .1, (h, s .pre .1 .0 .owner (l .loop .k) h)))
-
-mul-links : tie.Need-mul-links Inv-loop μ-loop
-mul-links c = search needs
-
-array-set-from-links : tie.Need-array-set-from-links Inv-loop μ-loop
-array-set-from-links c = search needs
-
-add-k : tie.Need-add-k Inv-loop μ-loop
-add-k c = search needs
-
-loop-less : tie.Need-loop-less Inv-loop μ-loop
-loop-less c = search needs
 
 loop-again : tie.Need-loop-again Inv-loop μ-loop
 loop-again c =
@@ -72,14 +51,14 @@ new-links-spec =
     (tie.spec
     Inv-loop
     μ-loop
-    cast-count
+    (λ c. search needs)
     loop-holds
-    mul-owner
-    array-copy-out-owner
+    (λ c. search needs)
+    (λ c. search needs)
     new-link-requires
-    mul-links
-    array-set-from-links
-    add-k
-    loop-less
+    (λ c. search needs)
+    (λ c. search needs)
+    (λ c. search needs)
+    (λ c. search needs)
     loop-again
     returns)

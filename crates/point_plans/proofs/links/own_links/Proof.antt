@@ -18,32 +18,14 @@ Inv-loop base e r count links₀ k₀ links k = (k ≤ count) × (count ≡ e .c
 abbrev μ-loop : tie.MeasureT-loop
 μ-loop base e r count links₀ k₀ links k = count - k
 
-cast-count : tie.Need-cast-count Inv-loop μ-loop
-cast-count c = search needs
-
 loop-holds : tie.Need-loop-holds Inv-loop μ-loop
 loop-holds c = (omega arith, refl, c .before .before .pre .0 .few, refl, refl, refl)
-
-path-of-requires : tie.Need-path-of-requires Inv-loop μ-loop
-path-of-requires c κs = search needs
 
 own-link-requires : tie.Need-own-link-requires Inv-loop μ-loop
 own-link-requires c κs =
     let l = c .before .before in
     let s = l .before .before .before in
     (s .pre .1, (s .pre .0 .lies, rw (c .path-of .ensures) (s .pre .0 .path (l .loop .k) (c .before .loop-test .taken) .inside)))
-
-mul-links : tie.Need-mul-links Inv-loop μ-loop
-mul-links c = search needs
-
-array-set-from-links : tie.Need-array-set-from-links Inv-loop μ-loop
-array-set-from-links c = search needs
-
-add-k : tie.Need-add-k Inv-loop μ-loop
-add-k c = search needs
-
-loop-less : tie.Need-loop-less Inv-loop μ-loop
-loop-less c = search needs
 
 loop-again : tie.Need-loop-again Inv-loop μ-loop
 loop-again c =
@@ -71,13 +53,13 @@ own-links-spec =
     (tie.spec
     Inv-loop
     μ-loop
-    cast-count
+    (λ c. search needs)
     loop-holds
-    path-of-requires
+    (λ c κs. search needs)
     own-link-requires
-    mul-links
-    array-set-from-links
-    add-k
-    loop-less
+    (λ c. search needs)
+    (λ c. search needs)
+    (λ c. search needs)
+    (λ c. search needs)
     loop-again
     returns)

@@ -14,28 +14,10 @@ use Rattle.point_plans.proofs.search.owner_among.Tie as tie
 found : (c : tie.After-found) → find (now (c .before .before .before .before .args .base)) (c .before .before .before .before .args .x) (keyOf (c .before .before .before .before .args .key)) ≡ At (c .found .given .0 .0)
 found c = sym (c .before .before .find .ensures .0) ∙ c .found .given .1
 
-find-requires : tie.Need-find-requires
-find-requires c κs = search needs
-
-enum-known-found : tie.Need-enum-known-found
-enum-known-found c = search needs
-
 part-of-requires : tie.Need-part-of-requires
 part-of-requires c κs =
     let s = c .before .before .before .before .before in
     (find-at _ _ _ _ (found (c .before)) .in-set, lies-most (s .pre .0 .lies))
-
-enum-told : tie.Need-enum-told
-enum-told c = search needs
-
-no-part-requires : tie.Need-no-part-requires
-no-part-requires c κs = search needs
-
-enum-told-2 : tie.Need-enum-told-2
-enum-told-2 c = search needs
-
-no-part-requires-2 : tie.Need-no-part-requires-2
-no-part-requires-2 c κs = search needs
 
 returns : tie.Need-returns
 returns c = rw (found (c .before .before), c .part-of .ensures)
@@ -50,13 +32,13 @@ pub owner-among-spec : {M : Type 1} → statement M
 owner-among-spec =
     tie.close
     (tie.spec
-    find-requires
-    enum-known-found
+    (λ c κs. search needs)
+    (λ c. search needs)
     part-of-requires
-    enum-told
-    no-part-requires
-    enum-told-2
-    no-part-requires-2
+    (λ c. search needs)
+    (λ c κs. search needs)
+    (λ c. search needs)
+    (λ c κs. search needs)
     returns
     returns-2
     returns-3)

@@ -1,5 +1,4 @@
 -- `point_plans::search::owner_on` meets its contract: on the named path the master that was found before is the one that would be found.
-use mathlib.Core.Path.{_∙_}
 use borrow.Author.Needs.{needs}
 use Rattle.masters.specs.FindLaws.{find-at}
 use Rattle.schema.specs.PlaceLaws.{lies-most}
@@ -16,25 +15,5 @@ returns c =
     let s = c .before .before .before .before in
     rw (s .pre .1 .1 (c .before .if1 .taken), c .part-of .ensures)
 
-cast-part : tie.Need-cast-part
-cast-part c = search needs
-
-part-requires : tie.Need-part-requires
-part-requires c κs = search needs
-
-owner-among-requires : tie.Need-owner-among-requires
-owner-among-requires c κs = search needs
-
-returns-2 : tie.Need-returns-2
-returns-2 c = c .owner-among .ensures ∙ (rw (c .before .part .ensures .0))
-
 pub owner-on-spec : {M : Type 1} → statement M
-owner-on-spec =
-    tie.close
-    (tie.spec
-    part-of-requires
-    returns
-    cast-part
-    part-requires
-    owner-among-requires
-    returns-2)
+owner-on-spec = tie.close (tie.spec part-of-requires returns (λ c κs. search needs) (λ c. search needs))

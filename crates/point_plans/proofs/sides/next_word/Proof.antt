@@ -10,26 +10,14 @@ use borrow.Author.Needs.{needs}
 use Rattle.point_plans.proofs.sides.next_word.Statement.{statement}
 use Rattle.point_plans.proofs.sides.next_word.Tie as tie
 
-add-of : tie.Need-add-of
-add-of c = search needs
-
-of-requires : tie.Need-of-requires
-of-requires c κs = search needs
-
 returns : tie.Need-returns
 returns c = rw (eq-eqb _ _ (c .before .before .if1 .taken)) (c .of .ensures)
 
 part-of-requires : tie.Need-part-of-requires
 part-of-requires c κs = let s = c .before in (s .pre .1 .1 .1 (c .if1 .left), s .pre .0)
 
-cast-of : tie.Need-cast-of
-cast-of c = search needs
-
 add-of-2 : tie.Need-add-of-2
 add-of-2 c = let s = c .before .before .before .before in omega (arith, place-in-block (s .args .next) (s .pre .0), s .pre .1 .0 .inside)
-
-of-requires-2 : tie.Need-of-requires-2
-of-requires-2 c κs = search needs
 
 returns-2 : tie.Need-returns-2
 returns-2 c =
@@ -40,4 +28,4 @@ returns-2 c =
 pub next-word-spec : {M : Type 1} → statement M
 next-word-spec =
     tie.close
-    (tie.spec add-of of-requires returns part-of-requires cast-of add-of-2 of-requires-2 returns-2)
+    (tie.spec (λ c. search needs) (λ c κs. search needs) returns part-of-requires (λ c. search needs) add-of-2 (λ c κs. search needs) returns-2)

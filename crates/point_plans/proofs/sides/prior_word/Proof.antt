@@ -10,26 +10,17 @@ use borrow.Author.Needs.{needs}
 use Rattle.point_plans.proofs.sides.prior_word.Statement.{statement}
 use Rattle.point_plans.proofs.sides.prior_word.Tie as tie
 
-of-requires : tie.Need-of-requires
-of-requires c κs = search needs
-
 returns : tie.Need-returns
 returns c = rw (eq-eqb _ _ (c .before .if1 .taken)) (c .of .ensures)
 
 part-of-requires : tie.Need-part-of-requires
 part-of-requires c κs = let s = c .before in (s .pre .1 .1 (c .if1 .left), s .pre .0)
 
-cast-of : tie.Need-cast-of
-cast-of c = search needs
-
 add-of : tie.Need-add-of
 add-of c = let s = c .before .before .before .before in omega (arith, place-in-block (s .args .prior) (s .pre .0), s .pre .1 .0 .inside)
 
 add-of-2 : tie.Need-add-of-2
 add-of-2 c = let s = c .before .before .before .before in omega (arith, place-in-block (s .args .prior) (s .pre .0), s .pre .1 .0 .inside)
-
-of-requires-2 : tie.Need-of-requires-2
-of-requires-2 c κs = search needs
 
 returns-2 : tie.Need-returns-2
 returns-2 c =
@@ -40,4 +31,4 @@ returns-2 c =
 pub prior-word-spec : {M : Type 1} → statement M
 prior-word-spec =
     tie.close
-    (tie.spec of-requires returns part-of-requires cast-of add-of add-of-2 of-requires-2 returns-2)
+    (tie.spec (λ c κs. search needs) returns part-of-requires (λ c. search needs) add-of add-of-2 (λ c κs. search needs) returns-2)

@@ -6,15 +6,6 @@ use borrow.Author.Needs.{needs}
 use Rattle.point_plans.proofs.sides.with_path.Statement.{statement}
 use Rattle.point_plans.proofs.sides.with_path.Tie as tie
 
-prior-word-requires : tie.Need-prior-word-requires
-prior-word-requires c κs = search needs
-
-next-word-requires : tie.Need-next-word-requires
-next-word-requires c κs = search needs
-
-with-word-requires : tie.Need-with-word-requires
-with-word-requires c κs = search needs
-
 with-word-requires-2 : tie.Need-with-word-requires-2
 with-word-requires-2 c κs = rw (c .with-word .ensures .0) (omega (arith, c .before .before .before .pre .0))
 
@@ -33,8 +24,8 @@ pub with-path-spec : {M : Type 1} → statement M
 with-path-spec =
     tie.close
     (tie.spec
-    prior-word-requires
-    next-word-requires
-    with-word-requires
+    (λ c κs. search needs)
+    (λ c κs. search needs)
+    (λ c κs. search needs)
     with-word-requires-2
     returns)

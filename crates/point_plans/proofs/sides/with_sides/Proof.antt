@@ -16,34 +16,10 @@ Inv-loop e owners links values count made₀ k₀ made k = (k ≤ count) × (cou
 abbrev μ-loop : tie.MeasureT-loop
 μ-loop e owners links values count made₀ k₀ made k = count - k
 
-cast-count : tie.Need-cast-count Inv-loop μ-loop
-cast-count c = search needs
-
 loop-holds : tie.Need-loop-holds Inv-loop μ-loop
 loop-holds c =
     let s = c .before in
     (omega arith, refl, s .pre .1 .0 .few, longer-none (s .args .plan) 0 _ (s .pre .0) (concatBelow-none (wordsOn (s .args .e) (s .args .t3) (s .args .t4) (s .args .t5))))
-
-path-of-requires : tie.Need-path-of-requires Inv-loop μ-loop
-path-of-requires c κs = search needs
-
-mul-owner : tie.Need-mul-owner Inv-loop μ-loop
-mul-owner c = search needs
-
-array-copy-out-owner : tie.Need-array-copy-out-owner Inv-loop μ-loop
-array-copy-out-owner c = search needs
-
-mul-link : tie.Need-mul-link Inv-loop μ-loop
-mul-link c = search needs
-
-array-copy-out-link : tie.Need-array-copy-out-link Inv-loop μ-loop
-array-copy-out-link c = search needs
-
-mul-value : tie.Need-mul-value Inv-loop μ-loop
-mul-value c = search needs
-
-array-copy-out-value : tie.Need-array-copy-out-value Inv-loop μ-loop
-array-copy-out-value c = search needs
 
 with-path-requires : tie.Need-with-path-requires Inv-loop μ-loop
 with-path-requires c κs =
@@ -55,12 +31,6 @@ with-path-requires c κs =
       omega (arith, l .loop .inv .3 .count, l .loop .inv .2),
       (s .pre .1 .0 .lies, (rw (d .path-of .ensures) (s .pre .1 .0 .path k h), (rw (d .path-of .ensures) (s .pre .1 .1 .0 .owner k h .link), s .pre .1 .1 .1 .inside k h))),
     )
-
-add-k : tie.Need-add-k Inv-loop μ-loop
-add-k c = search needs
-
-loop-less : tie.Need-loop-less Inv-loop μ-loop
-loop-less c = search needs
 
 loop-again : tie.Need-loop-again Inv-loop μ-loop
 loop-again c =
@@ -85,17 +55,17 @@ with-sides-spec =
     (tie.spec
     Inv-loop
     μ-loop
-    cast-count
+    (λ c. search needs)
     loop-holds
-    path-of-requires
-    mul-owner
-    array-copy-out-owner
-    mul-link
-    array-copy-out-link
-    mul-value
-    array-copy-out-value
+    (λ c κs. search needs)
+    (λ c. search needs)
+    (λ c. search needs)
+    (λ c. search needs)
+    (λ c. search needs)
+    (λ c. search needs)
+    (λ c. search needs)
     with-path-requires
-    add-k
-    loop-less
+    (λ c. search needs)
+    (λ c. search needs)
     loop-again
     returns)

@@ -6,11 +6,8 @@ use borrow.Author.Needs.{needs}
 use Rattle.records.proofs.fields.is_live.Statement.{statement}
 use Rattle.records.proofs.fields.is_live.Tie as tie
 
-state-requires : tie.Need-state-requires
-state-requires c κs = search needs
-
 returns : tie.Need-returns
 returns c = ap (λ (x : ℕ). eqb x 1) (c .state .ensures)
 
 pub is-live-spec : {M : Type 1} → statement M
-is-live-spec = tie.close (tie.spec state-requires returns)
+is-live-spec = tie.close (tie.spec (λ c κs. search needs) returns)

@@ -13,9 +13,6 @@ use borrow.Author.Needs.{needs}
 use Rattle.records.proofs.fields.key_in.Statement.{statement}
 use Rattle.records.proofs.fields.key_in.Tie as tie
 
-record-of-requires : tie.Need-record-of-requires
-record-of-requires c κs = search needs
-
 part-requires : tie.Need-part-requires
 part-requires c κs =
     let s = c .before .before in
@@ -32,4 +29,4 @@ returns c =
     (c .part .ensures .0 ∙ q, c .part .ensures .1, c .part .ensures .2 ∙ ap keyFrom q)
 
 pub key-in-spec : {M : Type 1} → statement M
-key-in-spec = tie.close (tie.spec record-of-requires part-requires returns)
+key-in-spec = tie.close (tie.spec (λ c κs. search needs) part-requires returns)

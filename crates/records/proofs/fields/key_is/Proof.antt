@@ -17,9 +17,6 @@ long c =
     let s = c .before .before in
     ap length (c .record-of .ensures) ∙ record-length (now (s .args .base)) (s .args .e) (s .args .r .0) (s .pre .1 .0) (s .pre .0)
 
-record-of-requires : tie.Need-record-of-requires
-record-of-requires c κs = search needs
-
 at-requires : tie.Need-at-requires
 at-requires c κs = omega (arith, long c, c .before .before .pre)
 
@@ -30,4 +27,4 @@ returns c =
     rw (c .at .ensures, c .before .record-of .ensures) (ap (sameBytes (keyOf (a .k))) (run-run (now (a .base)) (placeOf (a .e) (a .r .0)) (a .e .size) (a .o) (a .k .len) (s .pre .1 .1 .1)))
 
 pub key-is-spec : {M : Type 1} → statement M
-key-is-spec = tie.close (tie.spec record-of-requires at-requires returns)
+key-is-spec = tie.close (tie.spec (λ c κs. search needs) at-requires returns)

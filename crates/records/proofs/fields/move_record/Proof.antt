@@ -6,15 +6,6 @@ use Rattle.schema.specs.PlaceLaws.{place-inside, records-apart}
 use Rattle.records.proofs.fields.move_record.Statement.{statement}
 use Rattle.records.proofs.fields.move_record.Tie as tie
 
-place-of-requires : tie.Need-place-of-requires
-place-of-requires c κs = search needs
-
-place-of-requires-2 : tie.Need-place-of-requires-2
-place-of-requires-2 c κs = search needs
-
-cast-move-within : tie.Need-cast-move-within
-cast-move-within c = search needs
-
 move-within-requires : tie.Need-move-within-requires
 move-within-requires c κs =
     let q = c .before in
@@ -30,9 +21,6 @@ move-within-requires c κs =
       ),
     )
 
-same-length : tie.Need-same-length
-same-length c = search needs
-
 returns : tie.Need-returns
 returns c = cc
 
@@ -40,9 +28,9 @@ pub move-record-spec : {M : Type 1} → statement M
 move-record-spec =
     tie.close
     (tie.spec
-    place-of-requires
-    place-of-requires-2
-    cast-move-within
+    (λ c κs. search needs)
+    (λ c κs. search needs)
+    (λ c. search needs)
     move-within-requires
-    same-length
+    (λ c. search needs)
     returns)

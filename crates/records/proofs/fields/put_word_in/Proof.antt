@@ -14,29 +14,11 @@ use Rattle.records.proofs.fields.put_word_in.Tie as tie
 within : (s : tie.Start) → placeOf (s .args .e) (s .args .r .0) + s .args .e .size ≤ length (now (s .args .base))
 within s = place-inside (s .args .r .0) (s .pre .1 .0) (s .pre .0)
 
-place-of-requires : tie.Need-place-of-requires
-place-of-requires c κs = search needs
-
-cast-end : tie.Need-cast-end
-cast-end c = search needs
-
 add-end : tie.Need-add-end
 add-end c = omega (arith, within (c .before .before .before), c .before .place-of .ensures)
 
-sub-put-word : tie.Need-sub-put-word
-sub-put-word c = search needs
-
-part-put-word-start : tie.Need-part-put-word-start
-part-put-word-start c = search needs
-
 part-put-word-end : tie.Need-part-put-word-end
 part-put-word-end c = omega (arith, within (c .before .before .before), c .before .place-of .ensures)
-
-put-word-requires : tie.Need-put-word-requires
-put-word-requires c κs = search needs
-
-same-length : tie.Need-same-length
-same-length c = search needs
 
 returns : tie.Need-returns
 returns c =
@@ -51,12 +33,12 @@ pub put-word-in-spec : {M : Type 1} → statement M
 put-word-in-spec =
     tie.close
     (tie.spec
-    place-of-requires
-    cast-end
+    (λ c κs. search needs)
+    (λ c. search needs)
     add-end
-    sub-put-word
-    part-put-word-start
+    (λ c. search needs)
+    (λ c. search needs)
     part-put-word-end
-    put-word-requires
-    same-length
+    (λ c κs. search needs)
+    (λ c. search needs)
     returns)

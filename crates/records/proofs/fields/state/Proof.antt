@@ -14,9 +14,6 @@ long c =
     let s = c .before .before in
     ap length (c .record-of .ensures) ∙ record-length (now (s .args .base)) (s .args .e) (s .args .r .0) (s .pre .1 .0) (s .pre .0)
 
-record-of-requires : tie.Need-record-of-requires
-record-of-requires c κs = search needs
-
 shared-slice-read-result : tie.Need-shared-slice-read-result
 shared-slice-read-result c = omega (arith, long (c .before))
 
@@ -26,4 +23,4 @@ returns c =
     rw (c .before .record-of .ensures) (state-part (now (s .args .base)) (s .args .e) (s .args .r .0) (s .pre .1 .1))
 
 pub state-spec : {M : Type 1} → statement M
-state-spec = tie.close (tie.spec record-of-requires shared-slice-read-result returns)
+state-spec = tie.close (tie.spec (λ c κs. search needs) shared-slice-read-result returns)

@@ -16,29 +16,11 @@ use Rattle.records.proofs.fields.wipe.Tie as tie
 within : (s : tie.Start) → placeOf (s .args .e) (s .args .r .0) + s .args .e .size ≤ length (now (s .args .base))
 within s = place-inside (s .args .r .0) (s .pre .1) (s .pre .0)
 
-place-of-requires : tie.Need-place-of-requires
-place-of-requires c κs = search needs
-
-cast-size : tie.Need-cast-size
-cast-size c = search needs
-
 add-end : tie.Need-add-end
 add-end c = omega (arith, within (c .before .before .before), c .before .place-of .ensures)
 
-sub-zero : tie.Need-sub-zero
-sub-zero c = search needs
-
-part-zero-start : tie.Need-part-zero-start
-part-zero-start c = search needs
-
 part-zero-end : tie.Need-part-zero-end
 part-zero-end c = omega (arith, within (c .before .before .before), c .before .place-of .ensures)
-
-zero-requires : tie.Need-zero-requires
-zero-requires c κs = search needs
-
-same-length : tie.Need-same-length
-same-length c = search needs
 
 returns : tie.Need-returns
 returns c =
@@ -54,12 +36,12 @@ pub wipe-spec : {M : Type 1} → statement M
 wipe-spec =
     tie.close
     (tie.spec
-    place-of-requires
-    cast-size
+    (λ c κs. search needs)
+    (λ c. search needs)
     add-end
-    sub-zero
-    part-zero-start
+    (λ c. search needs)
+    (λ c. search needs)
     part-zero-end
-    zero-requires
-    same-length
+    (λ c κs. search needs)
+    (λ c. search needs)
     returns)

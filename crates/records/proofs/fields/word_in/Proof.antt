@@ -15,9 +15,6 @@ long c =
     let s = c .before .before in
     ap length (c .record-of .ensures) ∙ record-length (now (s .args .base)) (s .args .e) (s .args .r .0) (s .pre .1 .0) (s .pre .0)
 
-record-of-requires : tie.Need-record-of-requires
-record-of-requires c κs = search needs
-
 word-requires : tie.Need-word-requires
 word-requires c κs = omega (arith, long c)
 
@@ -27,4 +24,4 @@ returns c =
     rw (c .word .ensures, c .before .record-of .ensures) (wordAt-part (placeOf (s .args .e) (s .args .r .0)) (s .args .e .size) (now (s .args .base)) (s .args .o) (s .pre .1 .1))
 
 pub word-in-spec : {M : Type 1} → statement M
-word-in-spec = tie.close (tie.spec record-of-requires word-requires returns)
+word-in-spec = tie.close (tie.spec (λ c κs. search needs) word-requires returns)

@@ -3,11 +3,8 @@ use borrow.Author.Needs.{needs}
 use Rattle.rules.proofs.fields.used.Tie as tie
 use Rattle.rules.proofs.fields.used.Statement.{statement}
 
-paths-requires : tie.Need-paths-requires
-paths-requires c κs = search needs
-
 returns : tie.Need-returns
 returns c = cc
 
 pub used-spec : {M : Type 1} → statement M
-used-spec = tie.close (tie.spec paths-requires returns)
+used-spec = tie.close (tie.spec (λ c κs. search needs) returns)

@@ -10,15 +10,6 @@ use Rattle.schema.proofs.layout.block_of.Tie as tie
 within : (s : tie.Start) → placeOf (s .args .e) (s .args .r .0) + s .args .e .size ≤ 2097152
 within s = place-inside (s .args .r .0) (s .pre .1) (s .pre .0)
 
-sub-t3 : tie.Need-sub-t3
-sub-t3 c = search needs
-
-cast-t4 : tie.Need-cast-t4
-cast-t4 c = search needs
-
-div-t5 : tie.Need-div-t5
-div-t5 c = search needs
-
 add-t6 : tie.Need-add-t6
 unfolding placeOf blockOf
 add-t6 c = omega (arith, within (c .before .before .before))
@@ -28,4 +19,4 @@ unfolding blockOf
 returns c = search needs
 
 pub block-of-spec : {M : Type 1} → statement M
-block-of-spec = tie.close (tie.spec sub-t3 cast-t4 div-t5 add-t6 returns)
+block-of-spec = tie.close (tie.spec (λ c. search needs) (λ c. search needs) (λ c. search needs) add-t6 returns)

@@ -7,22 +7,10 @@ use borrow.Author.Needs.{needs}
 use Rattle.schema.proofs.layout.blocks_held.Statement.{statement}
 use Rattle.schema.proofs.layout.blocks_held.Tie as tie
 
-cast-per : tie.Need-cast-per
-cast-per c = search needs
-
-sub-result : tie.Need-sub-result
-sub-result c = search needs
-
-add-result : tie.Need-add-result
-add-result c = search needs
-
-div-result : tie.Need-div-result
-div-result c = search needs
-
 returns : tie.Need-returns
 returns c =
     let e = c .before .before .args .e in
     (refl, omega (arith, div-le-self (e .records + (e .per - 1)) (e .per)))
 
 pub blocks-held-spec : {M : Type 1} → statement M
-blocks-held-spec = tie.close (tie.spec cast-per sub-result add-result div-result returns)
+blocks-held-spec = tie.close (tie.spec (λ c. search needs) (λ c. search needs) (λ c. search needs) (λ c. search needs) returns)

@@ -27,9 +27,6 @@ add-at c = omega (arith, room (c .before .before) .inside, c .before .before .pr
 block-requires : tie.Need-block-requires
 block-requires c κs = room (c .before .before) .inside
 
-records-held-requires : tie.Need-records-held-requires
-records-held-requires c κs = search needs
-
 mul-at : tie.Need-mul-at
 mul-at c = omega (arith, whole (c .before))
 
@@ -57,7 +54,7 @@ leftover-of-spec =
     (tie.spec
     add-at
     block-requires
-    records-held-requires
+    (λ c κs. search needs)
     mul-at
     cast-at
     sub-result

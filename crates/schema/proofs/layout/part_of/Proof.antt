@@ -6,9 +6,6 @@ use borrow.Author.Needs.{needs}
 use Rattle.schema.proofs.layout.part_of.Statement.{statement}
 use Rattle.schema.proofs.layout.part_of.Tie as tie
 
-place-of-requires : tie.Need-place-of-requires
-place-of-requires c κs = search needs
-
 cast-t4 : tie.Need-cast-t4
 cast-t4 c = let s = c .before in omega (arith, place-inside (s .args .r .0) (s .pre .1) (s .pre .0), c .place-of .ensures)
 
@@ -19,4 +16,4 @@ returns : tie.Need-returns
 returns c = cc
 
 pub part-of-spec : {M : Type 1} → statement M
-part-of-spec = tie.close (tie.spec place-of-requires cast-t4 cast-t5 returns)
+part-of-spec = tie.close (tie.spec (λ c κs. search needs) cast-t4 cast-t5 returns)

@@ -10,24 +10,9 @@ use Rattle.schema.proofs.layout.place_of.Tie as tie
 within : (s : tie.Start) → placeOf (s .args .e) (s .args .r .0) + s .args .e .size ≤ 2097152
 within s = place-inside (s .args .r .0) (s .pre .1) (s .pre .0)
 
-sub-before : tie.Need-sub-before
-sub-before c = search needs
-
-cast-before : tie.Need-cast-before
-cast-before c = search needs
-
-rem-before : tie.Need-rem-before
-rem-before c = search needs
-
 mul-before : tie.Need-mul-before
 unfolding placeOf
 mul-before c = omega (arith, within (c .before .before .before))
-
-block-of-requires : tie.Need-block-of-requires
-block-of-requires c κs = search needs
-
-place-of-requires : tie.Need-place-of-requires
-place-of-requires c κs = search needs
 
 cast-result : tie.Need-cast-result
 unfolding placeOf
@@ -45,12 +30,12 @@ pub place-of-spec : {M : Type 1} → statement M
 place-of-spec =
     tie.close
     (tie.spec
-    sub-before
-    cast-before
-    rem-before
+    (λ c. search needs)
+    (λ c. search needs)
+    (λ c. search needs)
     mul-before
-    block-of-requires
-    place-of-requires
+    (λ c κs. search needs)
+    (λ c κs. search needs)
     cast-result
     add-result
     returns)

@@ -8,20 +8,11 @@ use Rattle.schema.proofs.layout.records_held.Tie as tie
 begun : (s : tie.Start) → Held (s .args .e) 2097152 (s .args .k)
 begun s = held (s .args .k) (s .pre .0) (s .pre .1)
 
-cast-per : tie.Need-cast-per
-cast-per c = search needs
-
 mul-smaller : tie.Need-mul-smaller
 mul-smaller c = omega (arith, begun (c .before) .some, c .before .pre .0 .many)
 
 sub-smaller : tie.Need-sub-smaller
 sub-smaller c = omega (arith, begun (c .before .before) .some)
 
-smaller-requires : tie.Need-smaller-requires
-smaller-requires c κs = search needs
-
-returns : tie.Need-returns
-returns c = search needs
-
 pub records-held-spec : {M : Type 1} → statement M
-records-held-spec = tie.close (tie.spec cast-per mul-smaller sub-smaller smaller-requires returns)
+records-held-spec = tie.close (tie.spec (λ c. search needs) mul-smaller sub-smaller (λ c κs. search needs) (λ c. search needs))

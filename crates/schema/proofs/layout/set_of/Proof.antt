@@ -27,32 +27,14 @@ abbrev μ-loop : tie.MeasureT-loop
 abbrev Test : tie.At-loop Inv-loop μ-loop → ℕ → Bool
 Test l = isNamed (l .before .before .args .t1) (l .before .before .args .name)
 
-sets-requires : tie.Need-sets-requires Inv-loop μ-loop
-sets-requires c κs = search needs
-
 loop-holds : tie.Need-loop-holds Inv-loop μ-loop
 loop-holds c = (search needs, rw (c .sets .ensures, sub-zero) refl)
-
-cast-e : tie.Need-cast-e Inv-loop μ-loop
-cast-e c = search needs
-
-mul-e : tie.Need-mul-e Inv-loop μ-loop
-mul-e c = search needs
-
-element-copy-out-e : tie.Need-element-copy-out-e Inv-loop μ-loop
-element-copy-out-e c = search needs
 
 returns : tie.Need-returns Inv-loop μ-loop
 returns c =
     let l = c .before .before .before .before in
     let n = l .before .sets .result in
     sym (lowestFrom-hit (Test l) (n - l .loop .i) (n - l .loop .i - 1) (l .loop .i) (omega arith) (eq-eqb _ _ (c .if1 .taken))) ∙ l .loop .inv .1
-
-add-i : tie.Need-add-i Inv-loop μ-loop
-add-i c = search needs
-
-loop-less : tie.Need-loop-less Inv-loop μ-loop
-loop-less c = search needs
 
 loop-again : tie.Need-loop-again Inv-loop μ-loop
 loop-again c =
@@ -74,13 +56,13 @@ set-of-spec =
     (tie.spec
     Inv-loop
     μ-loop
-    sets-requires
+    (λ c κs. search needs)
     loop-holds
-    cast-e
-    mul-e
-    element-copy-out-e
+    (λ c. search needs)
+    (λ c. search needs)
+    (λ c. search needs)
     returns
-    add-i
-    loop-less
+    (λ c. search needs)
+    (λ c. search needs)
     loop-again
     returns-2)

@@ -5,27 +5,12 @@ use borrow.Author.Needs.{needs}
 use Rattle.signon.proofs.on_masters.master_in_place.Statement.{statement}
 use Rattle.signon.proofs.on_masters.master_in_place.Tie as tie
 
-cast-key-in : tie.Need-cast-key-in
-cast-key-in c = search needs
-
-key-in-requires : tie.Need-key-in-requires
-key-in-requires c κs = search needs
-
-is-blank-requires : tie.Need-is-blank-requires
-is-blank-requires c κs = search needs
-
 returns : tie.Need-returns
 returns c =
     let s = c .before in
     let k = s .before in
     let a = k .before .before .before .args in
     place-blank (now (a .base)) (a .e) (a .r .0) (k .key-in .ensures .0) (s .is-blank .ensures) (c .if1 .taken)
-
-find-requires : tie.Need-find-requires
-find-requires c κs = search needs
-
-found-at-requires : tie.Need-found-at-requires
-found-at-requires c κs = search needs
 
 returns-2 : tie.Need-returns-2
 returns-2 c =
@@ -35,9 +20,6 @@ returns-2 c =
     let k = s .before in
     let a = k .before .before .before .args in
     place-lost (now (a .base)) (a .e) (a .r .0) (k .key-in .ensures .0) (s .is-blank .ensures) (f .before .if1 .left) (f .find .ensures .0) (o .found-at .ensures) (c .if2 .taken)
-
-next-answers-requires : tie.Need-next-answers-requires
-next-answers-requires c κs = search needs
 
 returns-3 : tie.Need-returns-3
 returns-3 c =
@@ -49,9 +31,6 @@ returns-3 c =
     let a = k .before .before .before .args in
     place-next (now (a .base)) (a .e) (a .r .0) (k .key-in .ensures .0) (s .is-blank .ensures) (f .before .if1 .left) (f .find .ensures .0) (o .found-at .ensures)
     (n .before .if2 .left) (n .next-answers .ensures) (c .if3 .taken)
-
-prior-ends-requires : tie.Need-prior-ends-requires
-prior-ends-requires c κs = search needs
 
 returns-4 : tie.Need-returns-4
 returns-4 c =
@@ -68,14 +47,14 @@ pub master-in-place-spec : {M : Type 1} → statement M
 master-in-place-spec =
     tie.close
     (tie.spec
-    cast-key-in
-    key-in-requires
-    is-blank-requires
+    (λ c. search needs)
+    (λ c κs. search needs)
+    (λ c κs. search needs)
     returns
-    find-requires
-    found-at-requires
+    (λ c κs. search needs)
+    (λ c κs. search needs)
     returns-2
-    next-answers-requires
+    (λ c κs. search needs)
     returns-3
-    prior-ends-requires
+    (λ c κs. search needs)
     returns-4)

@@ -21,24 +21,12 @@ loop-holds : tie.Need-loop-holds Inv-loop μ-loop
 unfolding allBelow
 loop-holds c = search needs
 
-add-t6 : tie.Need-add-t6 Inv-loop μ-loop
-add-t6 c = search needs
-
-record-in-place-requires : tie.Need-record-in-place-requires Inv-loop μ-loop
-record-in-place-requires c κs = search needs
-
 returns : tie.Need-returns Inv-loop μ-loop
 unfolding mastersInPlace
 returns c =
     let l = c .before .before .before in
     let a = l .before .before .args in
     fails (λ j. inPlaceAt (now (a .base)) (a .e) (j + 1)) (a .e .records) (l .loop .k) (c .before .before .loop-test .taken) (c .before .record-in-place .ensures) (c .if1 .taken)
-
-add-k : tie.Need-add-k Inv-loop μ-loop
-add-k c = search needs
-
-loop-less : tie.Need-loop-less Inv-loop μ-loop
-loop-less c = search needs
 
 loop-again : tie.Need-loop-again Inv-loop μ-loop
 loop-again c =
@@ -60,10 +48,10 @@ masters-in-place-spec =
     Inv-loop
     μ-loop
     loop-holds
-    add-t6
-    record-in-place-requires
+    (λ c. search needs)
+    (λ c κs. search needs)
     returns
-    add-k
-    loop-less
+    (λ c. search needs)
+    (λ c. search needs)
     loop-again
     returns-2)

@@ -6,20 +6,11 @@ use borrow.Author.Needs.{needs}
 use Rattle.signon.proofs.on_masters.next_answers.Statement.{statement}
 use Rattle.signon.proofs.on_masters.next_answers.Tie as tie
 
-root-next-requires : tie.Need-root-next-requires
-root-next-requires c κs = search needs
-
 returns : tie.Need-returns
 returns c =
     let q = c .before in
     let a = q .before .before .args in
     next-none (now (a .base)) (a .e) (a .r .0) (q .root-next .ensures) (c .if1 .taken)
-
-own-home-requires : tie.Need-own-home-requires
-own-home-requires c κs = search needs
-
-of-home-requires : tie.Need-of-home-requires
-of-home-requires c κs = search needs
 
 returns-2 : tie.Need-returns-2
 returns-2 c =
@@ -53,10 +44,10 @@ pub next-answers-spec : {M : Type 1} → statement M
 next-answers-spec =
     tie.close
     (tie.spec
-    root-next-requires
+    (λ c κs. search needs)
     returns
-    own-home-requires
-    of-home-requires
+    (λ c κs. search needs)
+    (λ c κs. search needs)
     returns-2
     root-prior-requires
     returns-3)

@@ -11,18 +11,12 @@ returns c =
     let a = s .args in
     home-above (now (a .base)) (a .e) (a .h .0) (a .q) (s .pre .1 .1) (c .if1 .taken)
 
-is-live-requires : tie.Need-is-live-requires
-is-live-requires c κs = search needs
-
 returns-2 : tie.Need-returns-2
 returns-2 c =
     let l = c .before in
     let s = l .before .before .before .before in
     let a = s .args in
     home-free (now (a .base)) (a .e) (a .h .0) (a .q) (s .pre .1 .1) (l .before .if1 .left) (l .is-live .ensures) (c .if2 .taken)
-
-own-home-requires : tie.Need-own-home-requires
-own-home-requires c κs = search needs
 
 returns-3 : tie.Need-returns-3
 returns-3 c =
@@ -33,4 +27,4 @@ returns-3 c =
     home-own (now (a .base)) (a .e) (a .h .0) (a .q) (s .pre .1 .1) (l .before .if1 .left) (l .is-live .ensures) (o .before .if2 .left) (o .own-home .ensures)
 
 pub of-home-spec : {M : Type 1} → statement M
-of-home-spec = tie.close (tie.spec returns is-live-requires returns-2 own-home-requires returns-3)
+of-home-spec = tie.close (tie.spec returns (λ c κs. search needs) returns-2 (λ c κs. search needs) returns-3)

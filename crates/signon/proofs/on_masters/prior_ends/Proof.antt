@@ -5,17 +5,11 @@ use borrow.Author.Needs.{needs}
 use Rattle.signon.proofs.on_masters.prior_ends.Statement.{statement}
 use Rattle.signon.proofs.on_masters.prior_ends.Tie as tie
 
-own-home-requires : tie.Need-own-home-requires
-own-home-requires c κs = search needs
-
 returns : tie.Need-returns
 returns c =
     let h = c .before .before .before in
     let a = h .before .before .args in
     prior-synonym (now (a .base)) (a .e) (a .r .0) (h .own-home .ensures) (c .if1 .taken)
-
-root-prior-requires : tie.Need-root-prior-requires
-root-prior-requires c κs = search needs
 
 returns-2 : tie.Need-returns-2
 returns-2 c =
@@ -24,4 +18,4 @@ returns-2 c =
     prior-home (now (a .base)) (a .e) (a .r .0) (h .own-home .ensures) (c .before .if1 .left) (c .root-prior .ensures)
 
 pub prior-ends-spec : {M : Type 1} → statement M
-prior-ends-spec = tie.close (tie.spec own-home-requires returns root-prior-requires returns-2)
+prior-ends-spec = tie.close (tie.spec (λ c κs. search needs) returns (λ c κs. search needs) returns-2)

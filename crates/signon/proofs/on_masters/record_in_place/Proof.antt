@@ -5,16 +5,10 @@ use borrow.Author.Needs.{needs}
 use Rattle.signon.proofs.on_masters.record_in_place.Statement.{statement}
 use Rattle.signon.proofs.on_masters.record_in_place.Tie as tie
 
-is-live-requires : tie.Need-is-live-requires
-is-live-requires c κs = search needs
-
 returns : tie.Need-returns
 returns c =
     let a = c .before .before .before .args in
     not-live (now (a .base)) (a .e) (a .r .0) (c .before .is-live .ensures) (c .if1 .taken)
-
-master-in-place-requires : tie.Need-master-in-place-requires
-master-in-place-requires c κs = search needs
 
 returns-2 : tie.Need-returns-2
 returns-2 c =
@@ -24,4 +18,4 @@ returns-2 c =
 
 pub record-in-place-spec : {M : Type 1} → statement M
 record-in-place-spec =
-    tie.close (tie.spec is-live-requires returns master-in-place-requires returns-2)
+    tie.close (tie.spec (λ c κs. search needs) returns (λ c κs. search needs) returns-2)

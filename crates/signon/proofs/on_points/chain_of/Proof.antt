@@ -5,19 +5,10 @@ use borrow.Author.Needs.{needs}
 use Rattle.signon.proofs.on_points.chain_of.Statement.{statement}
 use Rattle.signon.proofs.on_points.chain_of.Tie as tie
 
-is-live-requires : tie.Need-is-live-requires
-is-live-requires c κs = search needs
-
 returns : tie.Need-returns
 returns c =
     let a = c .before .before .before .args in
     chain-none (now (a .base)) (a .e) (a .p) (a .x) (a .m .0) (c .before .is-live .ensures) (c .if1 .taken)
-
-path-ride-requires : tie.Need-path-ride-requires
-path-ride-requires c κs = search needs
-
-last-on-requires : tie.Need-last-on-requires
-last-on-requires c κs = search needs
 
 returns-2 : tie.Need-returns-2
 returns-2 c =
@@ -29,4 +20,4 @@ returns-2 c =
 
 pub chain-of-spec : {M : Type 1} → statement M
 chain-of-spec =
-    tie.close (tie.spec is-live-requires returns path-ride-requires last-on-requires returns-2)
+    tie.close (tie.spec (λ c κs. search needs) returns (λ c κs. search needs) (λ c κs. search needs) returns-2)

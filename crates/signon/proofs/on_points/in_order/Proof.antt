@@ -12,21 +12,12 @@ returns c =
     let a = s .args in
     order-above (now (a .base)) (a .e) (a .p) (keyOf (a .k)) (a .prior) (a .at) (s .pre .1 .1 .1) (c .if1 .taken)
 
-is-live-requires : tie.Need-is-live-requires
-is-live-requires c κs = search needs
-
 returns-2 : tie.Need-returns-2
 returns-2 c =
     let l = c .before in
     let s = l .before .before .before .before in
     let a = s .args in
     order-free (now (a .base)) (a .e) (a .p) (keyOf (a .k)) (a .prior) (a .at) (s .pre .1 .1 .1) (l .before .if1 .left) (l .is-live .ensures) (c .if2 .taken)
-
-cast-key-is : tie.Need-cast-key-is
-cast-key-is c = search needs
-
-key-is-requires : tie.Need-key-is-requires
-key-is-requires c κs = search needs
 
 returns-3 : tie.Need-returns-3
 returns-3 c =
@@ -36,9 +27,6 @@ returns-3 c =
     let a = s .args in
     order-other (now (a .base)) (a .e) (a .p) (keyOf (a .k)) (a .prior) (a .at) (s .pre .1 .1 .1) (l .before .if1 .left) (l .is-live .ensures)
     (k .before .before .if2 .left) (s .pre .1 .1 .0) (k .key-is .ensures) (c .if3 .taken)
-
-prior-on-requires : tie.Need-prior-on-requires
-prior-on-requires c κs = search needs
 
 returns-4 : tie.Need-returns-4
 returns-4 c =
@@ -54,10 +42,10 @@ in-order-spec =
     tie.close
     (tie.spec
     returns
-    is-live-requires
+    (λ c κs. search needs)
     returns-2
-    cast-key-is
-    key-is-requires
+    (λ c. search needs)
+    (λ c κs. search needs)
     returns-3
-    prior-on-requires
+    (λ c κs. search needs)
     returns-4)

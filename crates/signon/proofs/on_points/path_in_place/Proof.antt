@@ -32,12 +32,6 @@ loop-holds c =
     let a = c .before .args in
     (omega arith, search needs, sym (points-none (now (a .base)) (a .e) (a .p) (a .x)), omega arith)
 
-add-t10 : tie.Need-add-t10 Inv-loop μ-loop
-add-t10 c = search needs
-
-chain-of-requires : tie.Need-chain-of-requires Inv-loop μ-loop
-chain-of-requires c κs = search needs
-
 returns : tie.Need-returns Inv-loop μ-loop
 returns c =
     let o = c .before .before in
@@ -50,12 +44,6 @@ add-met c =
     let o = c .before .before .before in
     let l = o .before .before in
     omega (arith, count-fits o, l .loop .inv .3, o .before .loop-test .taken, l .before .before .pre .masters .lies .many)
-
-add-k : tie.Need-add-k Inv-loop μ-loop
-add-k c = search needs
-
-loop-less : tie.Need-loop-less Inv-loop μ-loop
-loop-less c = search needs
 
 loop-again : tie.Need-loop-again Inv-loop μ-loop
 loop-again c =
@@ -86,12 +74,12 @@ path-in-place-spec =
     Inv-loop
     μ-loop
     loop-holds
-    add-t10
-    chain-of-requires
+    (λ c. search needs)
+    (λ c κs. search needs)
     returns
     add-met
-    add-k
-    loop-less
+    (λ c. search needs)
+    (λ c. search needs)
     loop-again
     live-count-requires
     returns-2)

@@ -6,18 +6,6 @@ use borrow.Author.Needs.{needs}
 use Rattle.signon.proofs.on_points.path_ride.Statement.{statement}
 use Rattle.signon.proofs.on_points.path_ride.Tie as tie
 
-cast-key-in : tie.Need-cast-key-in
-cast-key-in c = search needs
-
-key-in-requires : tie.Need-key-in-requires
-key-in-requires c κs = search needs
-
-first-on-requires : tie.Need-first-on-requires
-first-on-requires c κs = search needs
-
-ride-requires : tie.Need-ride-requires
-ride-requires c κs = search needs
-
 returns : tie.Need-returns
 returns c =
     let f = c .before in
@@ -26,4 +14,4 @@ returns c =
 
 pub path-ride-spec : {M : Type 1} → statement M
 path-ride-spec =
-    tie.close (tie.spec cast-key-in key-in-requires first-on-requires ride-requires returns)
+    tie.close (tie.spec (λ c. search needs) (λ c κs. search needs) (λ c κs. search needs) (λ c κs. search needs) returns)

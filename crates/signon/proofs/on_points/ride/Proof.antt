@@ -27,9 +27,6 @@ returns c =
     let a = l .before .before .args in
     sym (ride-done (now (a .base)) (a .e) (a .p) (keyOf (a .k)) (a .e .records - l .loop .count) (l .loop .count) (l .loop .last) (l .loop .at) (c .if1 .taken)) ∙ l .loop .inv .1
 
-in-order-requires : tie.Need-in-order-requires Inv-loop μ-loop
-in-order-requires c κs = search needs
-
 returns-2 : tie.Need-returns-2 Inv-loop μ-loop
 returns-2 c =
     let o = c .before in
@@ -49,12 +46,6 @@ next-on-requires c κs =
           (l .loop .count) (l .loop .last) (l .loop .at) (omega (arith, o .before .before .loop-test .taken)) (o .before .if1 .left) (o .in-order .ensures) (c .if2 .left),
       (s .pre .0, s .pre .1 .0 .inside),
     )
-
-add-count : tie.Need-add-count Inv-loop μ-loop
-add-count c = search needs
-
-loop-less : tie.Need-loop-less Inv-loop μ-loop
-loop-less c = search needs
 
 loop-again : tie.Need-loop-again Inv-loop μ-loop
 loop-again c =
@@ -81,10 +72,10 @@ ride-spec =
     μ-loop
     loop-holds
     returns
-    in-order-requires
+    (λ c κs. search needs)
     returns-2
     next-on-requires
-    add-count
-    loop-less
+    (λ c. search needs)
+    (λ c. search needs)
     loop-again
     returns-3)

@@ -6,35 +6,26 @@ use Rattle.terms.specs.Laws.{status-number-one}
 use Rattle.store.specs.Kinds.{masterOperation}
 use Rattle.store.specs.KindsLaws.{master-call}
 use Rattle.master_calls.specs.Masters.{Places}
-use Rattle.master_calls.specs.MasterLaws.{places-set}
+use Rattle.master_calls.specs.MasterLaws.{places-set, placed-fields}
 use Rattle.store.specs.BehindLaws.{set-refused, set-carried}
 use borrow.Author.Needs.{needs}
 use Rattle.store.proofs.on_masters.on_masters.Statement.{statement}
 use Rattle.store.proofs.on_masters.on_masters.Tie as tie
 
-operation-requires : tie.Need-operation-requires
-operation-requires c κs = search needs
-
 find-set-requires : tie.Need-find-set-requires
 find-set-requires c κs =
-    let p = c .before .before .before .before .before .before .pre in
-    (record { ok = p .0 .ok; fields = p .0 .fields; size = refl }, (rw (c .before .operation .ensures) (master-call (c .before .before .before .before .before .before .args .m)), p .1))
+    let p = c .before .before .before .before .pre in
+    (record { ok = p .0 .ok; fields = p .0 .fields; size = refl }, p .1)
+
+with-forms-requires : tie.Need-with-forms-requires
+with-forms-requires c κs = let f = c .before .before in placed-fields _ _ (f .before .before .before .before .before .pre .0) (f .find-set .ensures)
 
 -- what every call that asks so has come to
-placed : (f : tie.After-find-set)
-    → (let a = f .before .before .before .before .before .before .before .args in Places (a .t) (masterOperation (a .m)) (now (a .set)) (a .reference .0) (now (a .key)) (now (a .area)) (f .find-set .result))
+placed : (f : tie.After-with-forms)
+    → (let a = f .before .before .before .before .before .before .before .before .args in Places (a .t) (masterOperation (a .m)) (now (a .set)) (a .reference .0) (now (a .key)) (now (a .area)) (f .with-forms .result))
 placed f =
-    let s = f .before .before .before .before .before .before .before in
-    places-set _ _ _ _ _ _ (master-call (s .args .m)) (s .pre .0 .ok) (rw (f .before .before .operation .ensures) at (f .find-set .ensures))
-
-number-requires : tie.Need-number-requires
-number-requires c κs = search needs
-
-ended-requires : tie.Need-ended-requires
-ended-requires c κs = search needs
-
-same-length : tie.Need-same-length
-same-length c = search needs
+    let s = f .before .before .before .before .before .before .before .before in
+    places-set _ _ _ _ _ _ (master-call (s .args .m)) (s .pre .0 .ok) (f .before .before .before .find-set .ensures) (rw (f .before .before .operation .ensures) at (f .with-forms .ensures))
 
 returns : tie.Need-returns
 returns c =
@@ -46,13 +37,7 @@ carry-out-requires : tie.Need-carry-out-requires
 carry-out-requires c κs =
     let f = c .before .before .before .before in
     let k = placed f .known (status-number-one _ Done (sym (c .before .before .before .number .ensures) ∙ c .before .before .if1 .left)) in
-    (c .before .before .before .before .before .before .before .before .before .before .before .pre .0, k)
-
-same-length-2 : tie.Need-same-length-2
-same-length-2 c = search needs
-
-same-length-3 : tie.Need-same-length-3
-same-length-3 c = search needs
+    (c .before .before .before .before .before .before .before .before .before .before .before .before .pre .0, k)
 
 returns-2 : tie.Need-returns-2
 returns-2 c =
@@ -63,13 +48,14 @@ pub on-masters-spec : {M : Type 1} → statement M
 on-masters-spec =
     tie.close
     (tie.spec
-    operation-requires
     find-set-requires
-    number-requires
-    ended-requires
-    same-length
+    (λ c κs. search needs)
+    with-forms-requires
+    (λ c κs. search needs)
+    (λ c κs. search needs)
+    (λ c. search needs)
     returns
     carry-out-requires
-    same-length-2
-    same-length-3
+    (λ c. search needs)
+    (λ c. search needs)
     returns-2)

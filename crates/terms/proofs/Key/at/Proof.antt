@@ -8,9 +8,6 @@ use borrow.Author.Needs.{needs}
 use Rattle.terms.proofs.Key.at.Statement.{statement}
 use Rattle.terms.proofs.Key.at.Tie as tie
 
-add-end : tie.Need-add-end
-add-end c = search needs
-
 array-share-prefix-bytes : tie.Need-array-share-prefix-bytes
 array-share-prefix-bytes c =
     let f : length (c .before .before .args .self .bytes) ≡ 16 = search needs in
@@ -21,18 +18,6 @@ slice-aggregate-same c =
     let s = c .before .before .before in
     sym (keyOf-length (s .args .self .bytes) (s .args .self .len) (search needs) (s .pre .0))
 
-sub-same : tie.Need-sub-same
-sub-same c = search needs
-
-part-same-start : tie.Need-part-same-start
-part-same-start c = search needs
-
-part-same-end : tie.Need-part-same-end
-part-same-end c = search needs
-
-same-requires : tie.Need-same-requires
-same-requires c κs = search needs
-
 returns : tie.Need-returns
 returns c =
     let a = c .before .before .before .before .before .args in
@@ -42,11 +27,11 @@ pub at-spec : {M : Type 1} → statement M
 at-spec =
     tie.close
     (tie.spec
-    add-end
+    (λ c. search needs)
     array-share-prefix-bytes
     slice-aggregate-same
-    sub-same
-    part-same-start
-    part-same-end
-    same-requires
+    (λ c. search needs)
+    (λ c. search needs)
+    (λ c. search needs)
+    (λ c κs. search needs)
     returns)

@@ -7,12 +7,6 @@ use borrow.Author.Needs.{needs}
 use Rattle.terms.proofs.Key.home.Statement.{statement}
 use Rattle.terms.proofs.Key.home.Tie as tie
 
-sum-requires : tie.Need-sum-requires
-sum-requires c κs = search needs
-
-rem-t4 : tie.Need-rem-t4
-rem-t4 c = search needs
-
 add-t5 : tie.Need-add-t5
 add-t5 c = omega (arith, mod-lt (c .sum .result) {m = c .before .args .records} (search needs), c .before .pre)
 
@@ -20,4 +14,4 @@ returns : tie.Need-returns
 returns c = ap (λ (n : ℕ). 1 + n % c .before .args .records) (c .sum .ensures)
 
 pub home-spec : {M : Type 1} → statement M
-home-spec = tie.close (tie.spec sum-requires rem-t4 add-t5 returns)
+home-spec = tie.close (tie.spec (λ c κs. search needs) (λ c. search needs) add-t5 returns)

@@ -17,12 +17,9 @@ slice-aggregate-all c =
     let s = c .before .before in
     sym (keyOf-length (s .args .self .bytes) (s .args .self .len) (search needs) (s .pre))
 
-all-requires : tie.Need-all-requires
-all-requires c κs = search needs
-
 returns : tie.Need-returns
 returns c = c .all .ensures
 
 pub is-blank-spec : {M : Type 1} → statement M
 is-blank-spec =
-    tie.close (tie.spec array-share-prefix-bytes slice-aggregate-all all-requires returns)
+    tie.close (tie.spec array-share-prefix-bytes slice-aggregate-all (λ c κs. search needs) returns)

@@ -9,12 +9,6 @@ use borrow.Author.Needs.{needs}
 use Rattle.terms.proofs.Key.of.Statement.{statement}
 use Rattle.terms.proofs.Key.of.Tie as tie
 
-slice-aggregate-copy-in : tie.Need-slice-aggregate-copy-in
-slice-aggregate-copy-in c = search needs
-
-copy-in-requires : tie.Need-copy-in-requires
-copy-in-requires c κs = search needs
-
 returns : tie.Need-returns
 returns c =
     let s = c .before .before .before .before in
@@ -22,4 +16,4 @@ returns c =
     (rw (c .before .copy-in .ensures) (run-splice (zeros 16) 0 (now (s .args .s)) (omega arith)), refl, rw e refl)
 
 pub of-spec : {M : Type 1} → statement M
-of-spec = tie.close (tie.spec slice-aggregate-copy-in copy-in-requires returns)
+of-spec = tie.close (tie.spec (λ c. search needs) (λ c κs. search needs) returns)

@@ -27,9 +27,6 @@ slice-aggregate-same-2 c =
     let s = c .before .before .before .before in
     sym (keyOf-length (s .args .other .bytes) (s .args .other .len) (search needs) (s .pre .1))
 
-same-requires : tie.Need-same-requires
-same-requires c κs = search needs
-
 returns : tie.Need-returns
 returns c = c .same .ensures
 
@@ -41,5 +38,5 @@ same-spec =
     slice-aggregate-same
     array-share-prefix-b
     slice-aggregate-same-2
-    same-requires
+    (λ c κs. search needs)
     returns)

@@ -17,13 +17,10 @@ slice-aggregate-word-sum c =
     let s = c .before .before in
     sym (keyOf-length (s .args .self .bytes) (s .args .self .len) (search needs) (s .pre))
 
-word-sum-requires : tie.Need-word-sum-requires
-word-sum-requires c κs = search needs
-
 returns : tie.Need-returns
 returns c = c .word-sum .ensures
 
 pub sum-spec : {M : Type 1} → statement M
 sum-spec =
     tie.close
-    (tie.spec array-share-prefix-bytes slice-aggregate-word-sum word-sum-requires returns)
+    (tie.spec array-share-prefix-bytes slice-aggregate-word-sum (λ c κs. search needs) returns)

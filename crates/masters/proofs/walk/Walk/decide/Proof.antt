@@ -25,9 +25,6 @@ returns-3 c =
     let l : c .before .before .before .args .live ≡ true = not-false _ (c .before .before .if1 .left) in
     rw (l, c .before .if2 .left, eq-eqb _ _ (c .if3 .taken))
 
-add-t8 : tie.Need-add-t8
-add-t8 c = search needs
-
 returns-4 : tie.Need-returns-4
 unfolding decideOf
 returns-4 c =
@@ -36,4 +33,4 @@ returns-4 c =
     rw (l, p .if2 .left, ne-eqb _ _ (c .before .if3 .left))
 
 pub decide-spec : {M : Type 1} → statement M
-decide-spec = tie.close (tie.spec returns returns-2 returns-3 add-t8 returns-4)
+decide-spec = tie.close (tie.spec returns returns-2 returns-3 (λ c. search needs) returns-4)

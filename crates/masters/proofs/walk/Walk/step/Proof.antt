@@ -41,18 +41,6 @@ returns-3 c =
     let a = c .before .before .before .before .before .before .before .args in
     step-above (now (a .base)) (a .e) (keyOf (a .k)) (a .self) (omega arith) (omega (arith, c .if3 .taken))
 
-is-live-requires : tie.Need-is-live-requires
-is-live-requires c κs = search needs
-
-key-is-requires : tie.Need-key-is-requires
-key-is-requires c κs = search needs
-
-root-next-requires : tie.Need-root-next-requires
-root-next-requires c κs = search needs
-
-decide-requires : tie.Need-decide-requires
-decide-requires c κs = search needs
-
 returns-4 : tie.Need-returns-4
 returns-4 c =
     let n = c .before in
@@ -68,8 +56,8 @@ step-spec =
     returns
     returns-2
     returns-3
-    is-live-requires
-    key-is-requires
-    root-next-requires
-    decide-requires
+    (λ c κs. search needs)
+    (λ c κs. search needs)
+    (λ c κs. search needs)
+    (λ c κs. search needs)
     returns-4)
