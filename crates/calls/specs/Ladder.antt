@@ -11,7 +11,7 @@ use Rattle.terms.specs.Terms.{endRef}
 use Rattle.terms.specs.declared.Status.{Status}
 use Rattle.terms.specs.declared.Status.the-variants.{Done, Schm, Size, Func, Fntf, Kind, Path, Area, Klen, Bctl, Keys, Ivrp, Mrnf, Dupm, Imdl, Full, Damg}
 use Rattle.terms.specs.declared.Operation.{Operation}
-use Rattle.terms.specs.declared.Operation.the-variants.{Formt, Sinon, AddM, DelM, Readm, Writm, Rqloc, Rdnxt, Readv, Readr, Readd, Writv, Addvc, Addvb, Addva, Delvd, Unknown}
+use Rattle.terms.specs.declared.Operation.the-variants.{Sinon, AddM, DelM, Readm, Writm, Rqloc, Rdnxt, Readv, Readr, Readd, Writv, Addvc, Addvb, Addva, Delvd, Unknown}
 use Rattle.blocks.specs.Blocks.{checkBy}
 use Rattle.schema.specs.declared.Entry.{Entry}
 use Rattle.schema.specs.Decode.{pathOf, setCount}
@@ -92,11 +92,11 @@ needers = DelM ∷ Readm ∷ Writm ∷ variableCalls
 
 -- "7 (not DEL-M, DELVD, RQLOC, which ignore the area)"; "FORMT and SINON test no more parameters"
 abbrev pub arealess : List Operation
-arealess = Formt ∷ Sinon ∷ DelM ∷ Delvd ∷ Rqloc ∷ []
+arealess = DelM ∷ Delvd ∷ Rqloc ∷ wholeCalls
 
 -- those without a control key
 abbrev pub keyless : List Operation
-keyless = Formt ∷ Sinon ∷ Rdnxt ∷ []
+keyless = Rdnxt ∷ wholeCalls
 
 -- those that bring new keys, and those whose area's key must be the control key
 abbrev pub keyBringers : List Operation
@@ -126,8 +126,8 @@ pub data Rung : Type 0 where
   -- 7 to 11 by form
   AreaLength : Rung
   KeyLength : Rung
-  KeyTold : Rung
-  AreaKeysTold : Rung
+  KeyNotBlank : Rung
+  AreaKeysNotBlank : Rung
   AreaKeySame : Rung
   ReadForm : Rung
   SweepForm : Rung
@@ -152,13 +152,13 @@ pub data Rung : Type 0 where
   PointRoom : Rung
   -- the final 16
   SoundBase : Rung
-  NextIntact : Rung
-  PriorIntact : Rung
-  NewMasterIntact : Rung
-  OldMasterIntact : Rung
-  NewPointIntact : Rung
-  OldPointIntact : Rung
-  ChecksTrue : Rung
+  ForwardIntact : Rung
+  BackwardIntact : Rung
+  AddHomeIntact : Rung
+  DelHomeIntact : Rung
+  AddChainsIntact : Rung
+  DelChainsIntact : Rung
+  StoredIntoSealed : Rung
 
 -- a rung's test: the status that it refuses with, the calls that have it, and what it refuses
 pub record Rule : Type 0 where
@@ -182,8 +182,8 @@ ruleOf SetKind = but wholeCalls Kind (λ x c. wrongKind (x .operation) (x .entry
 ruleOf PathName = on variableCalls Path (λ x c. not (ltb (x .on) (x .entry .count)))
 ruleOf AreaLength = but arealess Area (λ x c. not (eqb (length (c .area)) (areaLength (x .entry))))
 ruleOf KeyLength = but keyless Klen (λ x c. not (eqb (length (c .key)) (keyLength x)))
-ruleOf KeyTold = but keyless Bctl (λ x c. allBlank (c .key))
-ruleOf AreaKeysTold = on keyBringers Bctl (λ x c. blankAreaKey (x .entry) (fullArea x c))
+ruleOf KeyNotBlank = but keyless Bctl (λ x c. allBlank (c .key))
+ruleOf AreaKeysNotBlank = on keyBringers Bctl (λ x c. blankAreaKey (x .entry) (fullArea x c))
 ruleOf AreaKeySame = on keyRepeaters Keys (λ x c. otherAreaKey (x .entry) (x .on) (c .key) (fullArea x c))
 ruleOf ReadForm = on chainReads Ivrp (λ x c. not (isLink x c || isNumber x c))
 ruleOf SweepForm = on (Rdnxt ∷ []) Ivrp (λ x c. not (leb (c .reference) (x .entry .records)))
@@ -204,14 +204,14 @@ ruleOf NoPoints = on (DelM ∷ []) Imdl (λ x c. hasPoints (x .schema) (c .base)
 ruleOf MasterRoom = on (AddM ∷ []) Full (λ x c. addMasterFull (c .base) (x .entry) (homeOfKey x c))
 ruleOf PointRoom = on adds Full (λ x c. isFull (c .base) (x .entry))
 ruleOf SoundBase = on (Sinon ∷ []) Damg (λ x c. not (sound (x .schema) (c .base)))
-ruleOf NextIntact = on (Readv ∷ []) Damg (λ x c. wayDamaged x c (forward x c))
-ruleOf PriorIntact = on (Readr ∷ []) Damg (λ x c. wayDamaged x c (backward x c))
-ruleOf NewMasterIntact = on (AddM ∷ []) Damg (λ x c. addMasterDamaged (c .base) (x .entry) (homeOfKey x c))
-ruleOf OldMasterIntact = on (DelM ∷ []) Damg (λ x c. delMasterDamaged (c .base) (x .entry) (homeOfKey x c) (masterIn x))
-ruleOf NewPointIntact =
+ruleOf ForwardIntact = on (Readv ∷ []) Damg (λ x c. wayDamaged x c (forward x c))
+ruleOf BackwardIntact = on (Readr ∷ []) Damg (λ x c. wayDamaged x c (backward x c))
+ruleOf AddHomeIntact = on (AddM ∷ []) Damg (λ x c. addMasterDamaged (c .base) (x .entry) (homeOfKey x c))
+ruleOf DelHomeIntact = on (DelM ∷ []) Damg (λ x c. delMasterDamaged (c .base) (x .entry) (homeOfKey x c) (masterIn x))
+ruleOf AddChainsIntact =
     on adds Damg (λ x c. addDamaged (c .base) (x .schema) (x .entry) (fullArea x c) (spotOf (x .operation) (c .reference)) (x .on))
-ruleOf OldPointIntact = on (Delvd ∷ []) Damg (λ x c. delDamaged (c .base) (x .schema) (x .entry) (c .reference))
-ruleOf ChecksTrue = but [] Damg (λ x c. not (blocksSealed (checkBy (x .schema .edition)) (c .base) (storesOf x c)))
+ruleOf DelChainsIntact = on (Delvd ∷ []) Damg (λ x c. delDamaged (c .base) (x .schema) (x .entry) (c .reference))
+ruleOf StoredIntoSealed = but [] Damg (λ x c. not (blocksSealed (checkBy (x .schema .edition)) (c .base) (storesOf x c)))
 
 -- ---- their order: the ladder, and its groups as the code goes down it
 
@@ -222,7 +222,7 @@ abbrev pub placeRungs : List Rung
 placeRungs = SetName ∷ SetKind ∷ PathName ∷ []
 
 abbrev pub formRungs : List Rung
-formRungs = AreaLength ∷ KeyLength ∷ KeyTold ∷ AreaKeysTold ∷ AreaKeySame ∷ ReadForm ∷ SweepForm ∷ LastForm ∷ NumberForm ∷ []
+formRungs = AreaLength ∷ KeyLength ∷ KeyNotBlank ∷ AreaKeysNotBlank ∷ AreaKeySame ∷ ReadForm ∷ SweepForm ∷ LastForm ∷ NumberForm ∷ []
 
 abbrev pub seekRungs : List Rung
 seekRungs = MasterIntact ∷ MasterThere ∷ MasterNew ∷ ReadPoint ∷ NumberPoint ∷ []
@@ -243,13 +243,13 @@ finalRungs =
     ∷ MasterRoom
     ∷ PointRoom
     ∷ SoundBase
-    ∷ NextIntact
-    ∷ PriorIntact
-    ∷ NewMasterIntact
-    ∷ OldMasterIntact
-    ∷ NewPointIntact
-    ∷ OldPointIntact
-    ∷ ChecksTrue
+    ∷ ForwardIntact
+    ∷ BackwardIntact
+    ∷ AddHomeIntact
+    ∷ DelHomeIntact
+    ∷ AddChainsIntact
+    ∷ DelChainsIntact
+    ∷ StoredIntoSealed
     ∷ []
 
 -- behind the named master and the referenced record

@@ -14,7 +14,7 @@ use Rattle.terms.specs.Status.{statusNumber}
 use Rattle.calls.specs.Call.{Call, oneOf}
 use Rattle.calls.specs.Scene.{Scene, sceneOf}
 use Rattle.calls.specs.Ladder.{Rung, ruleOf, generalRungs, placeRungs, formRungs, seekRungs, addedRungs, ownRungs, otherRungs, finalRungs, ladder, refuses, refusal}
-use Rattle.calls.specs.Ladder.Rung.{SchemaRules, BaseLength, KnownCall, SetName, SetKind, PathName, AreaLength, KeyLength, KeyTold, AreaKeysTold, AreaKeySame, ReadForm, SweepForm, LastForm, NumberForm, MasterIntact, MasterThere, MasterNew, ReadPoint, NumberPoint, StoredKeys, AddedIntact, AddedThere, OwnIntact, OwnThere, NoPoints, MasterRoom, PointRoom, SoundBase, NextIntact, PriorIntact, NewMasterIntact, OldMasterIntact, NewPointIntact, OldPointIntact, ChecksTrue}
+use Rattle.calls.specs.Ladder.Rung.{SchemaRules, BaseLength, KnownCall, SetName, SetKind, PathName, AreaLength, KeyLength, KeyNotBlank, AreaKeysNotBlank, AreaKeySame, ReadForm, SweepForm, LastForm, NumberForm, MasterIntact, MasterThere, MasterNew, ReadPoint, NumberPoint, StoredKeys, AddedIntact, AddedThere, OwnIntact, OwnThere, NoPoints, MasterRoom, PointRoom, SoundBase, ForwardIntact, BackwardIntact, AddHomeIntact, DelHomeIntact, AddChainsIntact, DelChainsIntact, StoredIntoSealed}
 use Rattle.blocks.specs.Blocks.{checkBy}
 use Rattle.plans.specs.Plan.{formatted, committed}
 use Rattle.plans.specs.PlanLaws.{length-committed, length-formatted}
@@ -72,8 +72,8 @@ rungNumber SetKind = 4
 rungNumber PathName = 5
 rungNumber AreaLength = 6
 rungNumber KeyLength = 7
-rungNumber KeyTold = 8
-rungNumber AreaKeysTold = 9
+rungNumber KeyNotBlank = 8
+rungNumber AreaKeysNotBlank = 9
 rungNumber AreaKeySame = 10
 rungNumber ReadForm = 11
 rungNumber SweepForm = 12
@@ -93,13 +93,13 @@ rungNumber NoPoints = 25
 rungNumber MasterRoom = 26
 rungNumber PointRoom = 27
 rungNumber SoundBase = 28
-rungNumber NextIntact = 29
-rungNumber PriorIntact = 30
-rungNumber NewMasterIntact = 31
-rungNumber OldMasterIntact = 32
-rungNumber NewPointIntact = 33
-rungNumber OldPointIntact = 34
-rungNumber ChecksTrue = 35
+rungNumber ForwardIntact = 29
+rungNumber BackwardIntact = 30
+rungNumber AddHomeIntact = 31
+rungNumber DelHomeIntact = 32
+rungNumber AddChainsIntact = 33
+rungNumber DelChainsIntact = 34
+rungNumber StoredIntoSealed = 35
 
 -- the rung of the list that has this one's number; itself where there is none
 abbrev pub rungIn : Rung → List Rung → Rung

@@ -14,7 +14,7 @@ use Rattle.sound.specs.Sound.{sound}
 use Rattle.calls.specs.Call.{Call, oneOf, adds}
 use Rattle.calls.specs.Scene.{Scene}
 use Rattle.calls.specs.Ladder.{isLink, otherStoredKey, otherRungs, finalRungs, restRungs, refusal}
-use Rattle.calls.specs.Reply.{storesOf, masterIn, homeOfKey, forward, backward}
+use Rattle.calls.specs.Reply.{fullArea, storesOf, masterIn, homeOfKey, forward, backward}
 use Rattle.calls.specs.LadderLaws.{refusal-passed, others-pass}
 
 module _ (x : Scene) (c : Call) where
@@ -24,10 +24,10 @@ module _ (x : Scene) (c : Call) where
 
   rest-short : oneOf (x .operation) adds ≡ false → oneOf (x .operation) (Delvd ∷ []) ≡ false
       → refusal x c (restRungs x)
-      ≡ cond (oneOf (x .operation) (Writv ∷ []) && otherStoredKey (c .base) (x .entry) (c .reference) (c .area)) Keys (refusal x c finalRungs)
+      ≡ cond (oneOf (x .operation) (Writv ∷ []) && otherStoredKey (c .base) (x .entry) (c .reference) (fullArea x c)) Keys (refusal x c finalRungs)
   unfolding refusal
   rest-short h k =
-      ap (cond (oneOf (x .operation) (Writv ∷ []) && otherStoredKey (c .base) (x .entry) (c .reference) (c .area)) Keys)
+      ap (cond (oneOf (x .operation) (Writv ∷ []) && otherStoredKey (c .base) (x .entry) (c .reference) (fullArea x c)) Keys)
       (refusal-passed x c (otherRungs (x .entry .count)) finalRungs (others-pass x c h k (x .entry .count)))
 
   -- ---- calls that store nothing
@@ -73,7 +73,7 @@ module _ (x : Scene) (c : Call) where
   rest-writm e = rest-short (rw e refl) (rw e refl) ∙ rw e refl
 
   pub rest-writv : x .operation ≡ Writv
-      → refusal x c (restRungs x) ≡ cond (otherStoredKey (c .base) (x .entry) (c .reference) (c .area)) Keys storable
+      → refusal x c (restRungs x) ≡ cond (otherStoredKey (c .base) (x .entry) (c .reference) (fullArea x c)) Keys storable
   unfolding refusal
   rest-writv e = rest-short (rw e refl) (rw e refl) ∙ rw e refl
 

@@ -26,7 +26,7 @@ use Rattle.calls.specs.Scene.{sceneUnder}
 use Rattle.calls.specs.Reply.{fullArea}
 use Rattle.schema.specs.Naming.{setNamed, pathNamed}
 use Rattle.calls.specs.Ladder.{wrongKind, blankAreaKey, otherAreaKey, Rung, refuses, arealess, keyless, keyBringers, keyRepeaters, numbered}
-use Rattle.calls.specs.Ladder.Rung.{SetName, SetKind, PathName, AreaLength, KeyTold, AreaKeysTold, AreaKeySame, NumberForm}
+use Rattle.calls.specs.Ladder.Rung.{SetName, SetKind, PathName, AreaLength, KeyNotBlank, AreaKeysNotBlank, AreaKeySame, NumberForm}
 use Rattle.calls.specs.LadderLaws.{Passes}
 use Rattle.calls.specs.OutcomeLaws.{rungIn, hasRung, passed}
 use Rattle.condition3.specs.Calm.{unasked}
@@ -98,11 +98,11 @@ module _ (t : Schema) (ok : SchemaOk t) (c : Call) where
     -- 9
     pub key-told : oneOf o keyless ≡ false → allBlank (c .key) ≡ false
     unfolding sceneUnder
-    key-told q = unasked (oneOf o keyless) _ (by KeyTold refl) q
+    key-told q = unasked (oneOf o keyless) _ (by KeyNotBlank refl) q
 
     pub area-keys-told : oneOf o keyBringers ≡ true → blankAreaKey e (fullArea (sceneUnder t c) c) ≡ false
     unfolding sceneUnder
-    area-keys-told q = asked (oneOf o keyBringers) _ (by AreaKeysTold refl) q
+    area-keys-told q = asked (oneOf o keyBringers) _ (by AreaKeysNotBlank refl) q
 
     -- 10
     pub area-key-same : oneOf o keyRepeaters ≡ true → otherAreaKey e j (c .key) (fullArea (sceneUnder t c) c) ≡ false

@@ -32,7 +32,7 @@ abbrev pub requestOf : List ℕ → List ℕ → ℕ → List ℕ → List ℕ �
 requestOf operation name reference path key area =
     record { operation = operation; name = name; reference = reference; path = path; key = key; area = area }
 
--- "under one schema": what every call of a sequence has alike
+-- what every call of a sequence has alike: the schema
 pub record Fixed : Type 0 where
   pub schema : List ℕ
 

@@ -1,13 +1,12 @@
 -- Zeros over a whole buffer, the turns of the loop that sets the checks, and the check of a block of zeros.
-use Prim.Native.Nat.{ℕ, zero, suc, _+_, _*_, _%_, _≤_, _<_}
+use Prim.Native.Nat.{ℕ, zero, suc, _+_, _*_, _≤_, _<_}
 use mathlib.Core.Path.{_≡_, refl, ap, _∙_}
 use mathlib.Core.List.{List, append-nil}
 use native.Mathlib.Omega.{arith}
-use native.Mathlib.Nat.{mod-eq-of-lt}
 use native.Mathlib.Numerals.{add-one}
 use lib.ListN.{length, length-replicate}
 use lib.Seq.{drop-length}
-use Rattle.octets.specs.Octets.{run, splice, word4, setWord, zeros, sumOnto}
+use Rattle.octets.specs.Octets.{run, splice, setWord, zeros}
 use Rattle.octets.specs.SpliceLaws.{splice-eq, run-zeros}
 use Rattle.blocks.specs.declared.Check.{Check}
 use Rattle.blocks.specs.Blocks.{blockAt, checkAt, seal}

@@ -14,7 +14,7 @@ use Rattle.schema.specs.declared.Entry.{Entry}
 use Rattle.schema.specs.Place.{inSet}
 use Rattle.records.specs.Areas.{areaLength}
 use Rattle.calls.specs.Ladder.{blankAreaKey, otherAreaKey, ruleOf}
-use Rattle.calls.specs.Ladder.Rung.{AreaLength, KeyLength, AreaKeysTold, AreaKeySame, ReadForm, SweepForm, LastForm, NumberForm}
+use Rattle.calls.specs.Ladder.Rung.{AreaLength, KeyLength, AreaKeysNotBlank, AreaKeySame, ReadForm, SweepForm, LastForm, NumberForm}
 use Rattle.forms.specs.declared.Rungs.{Rungs}
 
 -- the tests that an operation has
@@ -23,7 +23,7 @@ rungsOf o =
     record {
       area = ruleOf AreaLength .asked o;
       key = ruleOf KeyLength .asked o;
-      blank = ruleOf AreaKeysTold .asked o;
+      blank = ruleOf AreaKeysNotBlank .asked o;
       same = ruleOf AreaKeySame .asked o;
       link = ruleOf ReadForm .asked o;
       sweep = ruleOf SweepForm .asked o;
