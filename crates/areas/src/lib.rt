@@ -1,5 +1,7 @@
 // Areas: a record read into one, the D bytes of one stored, and a new record made of one. "Area: for a master, key then D bytes; for a
 // variable, its keys in path order, then D bytes."
+#![tactic(auto)]
+
 ghost use Rattle.std.specs.Prelude.{◌≡◌, false, ◌++◌, ◌+◌, ◌≤◌, length};
 ghost use Rattle.octets.specs.Octets.{run, splice, word_bytes};
 ghost use Rattle.schema.specs.Place.{InSet, LiesIn, place_of};

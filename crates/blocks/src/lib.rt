@@ -1,5 +1,7 @@
 // Blocks of 512 bytes, each with its check in its last four. A block is handed on as a part of the data base. Here, and nowhere else, the
 // number of a block becomes its place in the data base, and a place the number of its block.
+#![tactic(auto)]
+
 ghost use Rattle.std.specs.Prelude.{◌≡◌, length};
 ghost use Rattle.octets.specs.Octets.{run, set_word};
 ghost use Rattle.blocks.specs.declared.Check.TheVariants.{Sum};
@@ -8,7 +10,7 @@ ghost use Rattle.blocks.specs.Blocks.{HasBlock, block_at, block_with, check_at, 
 use terms::BlockNo;
 
 // The kinds of check. Every block of a data base has the same.
-#[derive(Drop)]
+#[derive(Clone, Copy)]
 pub enum Check {
     Sum,
 }

@@ -1,1 +1,2 @@
 // The sixteen calls.
+#![tactic(auto)]

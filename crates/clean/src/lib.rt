@@ -1,5 +1,7 @@
 // The part of sign-on's judgement that looks at bytes alone: checks, states, fillers, free records and leftovers. Each function answers
 // what one definition of sound/specs/Sound.antt says, and leaves at the first byte that is wrong.
+#![tactic(auto)]
+
 ghost use Rattle.std.specs.Prelude.{◌≡◌, ◌*◌, ◌≤◌, ◌<◌, length};
 ghost use Rattle.octets.specs.Below.{all_below};
 ghost use Rattle.blocks.specs.Blocks.{is_sealed};

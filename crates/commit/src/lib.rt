@@ -1,5 +1,7 @@
 // The commit: everything that a plan stands for is stored, or nothing is. The blocks that it stores into are listed first, each once; where
 // all their checks are true, the stores are made, and then the checks set.
+#![tactic(auto)]
+
 ghost use Rattle.std.specs.Prelude.{◌≡◌, cond, [], ◌+◌, ◌≤◌, ◌<◌, length};
 ghost use Rattle.octets.specs.Octets.{splice, set_word};
 ghost use Rattle.blocks.specs.Blocks.{check_by};
@@ -22,7 +24,7 @@ use terms::{BlockNo, RecordNo};
 
 // Numbers of blocks, each once: the first `count` of the array. A plan has at most eleven stores: two of its head, eight words and a wiped
 // record; there is always room for one more.
-#[derive(Drop)]
+#[derive(Clone, Copy)]
 struct Blocks {
     numbers: [BlockNo; 12],
     count: usize,

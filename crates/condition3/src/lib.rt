@@ -6,3 +6,4 @@
 // what a call does to the lists: Turns, Steps;
 // what the calls read: ReadTests (READM, READV, READR), ExistsLaws (READM), ReadLaws (READV, READR); AreaKeys, PointLaws, SweepCall, SweepLaws (RDNXT);
 // and the theorem: Theorem.
+#![tactic(auto)]

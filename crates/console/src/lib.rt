@@ -1,5 +1,7 @@
 // The program of document 01, "Small store, worked", on slices: the small store, and what a line asks of it and prints. It reads and
 // writes nothing outside its buffers.
+#![tactic(auto)]
+
 ghost use Rattle.std.specs.Prelude.{◌≡◌, true, false, cond, ◌≤◌, [], ◌∷◌, ◌++◌, eqb, length, take, set};
 ghost use Rattle.calls.specs.Call.{call_of};
 ghost use Rattle.console.specs.Lines.{field_of};

@@ -15,7 +15,7 @@ use schema::{Decoded, Entry, Path, Schema};
 use terms::{BlockNo, EntryNo};
 
 // The paths to each master, counted.
-#[derive(Drop)]
+#[derive(Clone, Copy)]
 pub(crate) struct Links {
     pub number: [u8; 32], // how many paths to its master stand before that in slot q
     pub total: [u8; 4], // how many lead to master m

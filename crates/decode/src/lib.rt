@@ -1,4 +1,6 @@
 // Decoding a schema: every rule that document 01 makes for it is judged, and what it says is laid out.
+#![tactic(auto)]
+
 ghost use Rattle.std.specs.Prelude.{◌≡◌};
 ghost use Rattle.schema.specs.Decode.{decoded_of};
 

@@ -1,4 +1,6 @@
 // How a call ends: refused, with a record that is given, or with stores that are committed.
+#![tactic(auto)]
+
 ghost use Rattle.std.specs.Prelude.{◌≡◌, ◌≤◌, length};
 ghost use Rattle.blocks.specs.Blocks.{check_by};
 ghost use Rattle.schema.specs.Place.{LiesIn};
@@ -14,7 +16,7 @@ use schema::Entry;
 use terms::{RecordNo, Reference, Status};
 
 // What a call returns.
-#[derive(Drop)]
+#[derive(Clone, Copy)]
 pub struct Answer {
     pub status: Status,
     pub reference: Reference,

@@ -1,4 +1,6 @@
 // "FORMT zeroes everything and sets the checks." What the data base held before counts for nothing, its checks neither.
+#![tactic(auto)]
+
 ghost use Rattle.std.specs.Prelude.{◌≡◌, ◌*◌, ◌≤◌, length};
 ghost use Rattle.octets.specs.Octets.{run, zeros};
 ghost use Rattle.blocks.specs.declared.Check.{Check};

@@ -1,4 +1,6 @@
 // The tests of a call's parameters: the length of its area, the control key, the keys of the area, the form of the reference.
+#![tactic(auto)]
+
 ghost use Rattle.std.specs.Prelude.{◌≡◌, false, true, ◌&&◌, ◌||◌, ◌<◌, ◌≤◌, length};
 ghost use Rattle.octets.specs.Octets.{all_blank};
 ghost use Rattle.terms.specs.Terms.{key_of};
@@ -13,7 +15,7 @@ use schema::layout::{path_of, record_of};
 use terms::{Key, Operation, RecordNo, Reference, Status};
 
 // Which tests of its parameters an operation has.
-#[derive(Drop)]
+#[derive(Clone, Copy)]
 pub struct Rungs {
     pub area: bool, // the area has the set's length
     pub key: bool, // the control key has its length and is not blank

@@ -1,4 +1,6 @@
 // The calls on a set of masters.
+#![tactic(auto)]
+
 ghost use Rattle.std.specs.Prelude.{◌≡◌, List, ℕ, ◌*◌, ◌<◌, length, true};
 ghost use Rattle.terms.specs.declared.Operation.TheVariants.{AddM, DelM, Readm, Writm, Rqloc};
 ghost use Rattle.schema.specs.Decode.{entry_of};
@@ -18,7 +20,7 @@ use schema::{Entry, Schema};
 use terms::{EntryNo, Key, Operation, Reference, Status};
 
 // The set that a call on masters speaks of, where the status is Done.
-#[derive(Drop)]
+#[derive(Clone, Copy)]
 pub struct Placed {
     pub status: Status,
     pub number: EntryNo,

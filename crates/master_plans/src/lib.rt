@@ -1,5 +1,7 @@
 // Masters on the ROOT chains: the plans of ADD-M and DEL-M. All that is to be read and tested is read and tested here; what is to be stored
 // goes into a plan, which another room commits.
+#![tactic(auto)]
+
 ghost use Rattle.std.specs.Prelude.{◌≡◌, cond, true, List, [], ◌++◌, ℕ, ◌+◌, ◌*◌, ◌≤◌, ◌<◌, length};
 ghost use Rattle.terms.specs.declared.Status.TheVariants.{Done, Damg};
 ghost use Rattle.schema.specs.Decode.{entry_of};

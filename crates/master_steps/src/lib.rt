@@ -3,3 +3,4 @@
 // neighbours (Neighbours), no damage met (QuietLaws); a change of the middle of one list keeps the set sound (TouchLaws), case by case (ChangeLaws);
 // from the stores: deeds on masters (CallDeeds), what ADD-M and DEL-M store (Relinks), a master's bytes (Images), the cases (AddStores, DelStores);
 // and the steps (MasterStep, MasterSteps).
+#![tactic(auto)]

@@ -13,14 +13,14 @@ use schema::Entry;
 use terms::{Key, RecordNo};
 
 // Where the walk stands: the pointer that it came by, a plain word until it is tested against R, and the records visited before it.
-#[derive(Drop)]
+#[derive(Clone, Copy)]
 pub struct Walk {
     pub at: u32,
     pub visited: u32,
 }
 
 // What a step of the walk meets.
-#[derive(Drop)]
+#[derive(Clone, Copy)]
 pub enum Step {
     Found(RecordNo),
     Absent,
@@ -29,7 +29,7 @@ pub enum Step {
 }
 
 // What the search found, and the record where it ends: behind that one a synonym is linked, so the chain is walked once.
-#[derive(Drop)]
+#[derive(Clone, Copy)]
 pub struct Sought {
     pub found: Found,
     pub last: RecordNo,

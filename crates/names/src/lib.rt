@@ -1,4 +1,6 @@
 // The set and the path that a call names.
+#![tactic(auto)]
+
 ghost use Rattle.std.specs.Prelude.{◌≡◌, length};
 ghost use Rattle.octets.specs.Octets.{same_bytes};
 ghost use Rattle.schema.specs.Guarantee.{SchemaOk};

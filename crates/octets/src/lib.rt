@@ -1,4 +1,6 @@
 // Bytes of a buffer: big-endian numbers, runs that are stored, compared and summed. Every store is one `splice` of the buffer.
+#![tactic(auto)]
+
 ghost use Rattle.std.specs.Prelude.{◌≡◌, ◌+◌, ◌%◌, ◌≤◌, length};
 ghost use Rattle.octets.specs.Octets.{Apart, half2, word4, half_at, word_at, run, splice, set_word, zeros, every, is, same_bytes, sum_onto};
 

@@ -1,4 +1,6 @@
 // What a call stores: a plan, made while reading, from the data base as it came. The room `commit` stores all of it, or nothing.
+#![tactic(auto)]
+
 ghost use Rattle.std.specs.Prelude.{◌≡◌, ◌++◌, ◌∷◌, [], ◌<◌};
 ghost use Rattle.plans.specs.Stores.{words_of, word_in};
 ghost use Rattle.plans.specs.Made.{head_plan, with_word, with_wiped, refused_by, body_planned};
@@ -8,7 +10,7 @@ use schema::Part;
 use terms::{RecordNo, Status};
 
 // A linkage field of a record, and what it becomes. The record is a part of the data base.
-#[derive(Drop)]
+#[derive(Clone, Copy)]
 pub struct Word {
     pub at: u32, // where the record begins
     pub size: u16, // L, its length
@@ -17,7 +19,7 @@ pub struct Word {
 }
 
 // What goes first: "moved record, then new record".
-#[derive(Drop)]
+#[derive(Clone, Copy)]
 pub enum Head {
     Nothing,
     // the D bytes of the area go into the target
@@ -32,7 +34,7 @@ pub enum Head {
     Synonym,
 }
 
-#[derive(Drop)]
+#[derive(Clone, Copy)]
 pub struct Plan {
     pub head: Head,
     // the record that the head stores into, and the other one that it speaks of
@@ -48,7 +50,7 @@ pub struct Plan {
 }
 
 // What reading came to: a refusal, or, where the status is Done, what is to be stored.
-#[derive(Drop)]
+#[derive(Clone, Copy)]
 pub struct Planned {
     pub status: Status,
     pub plan: Plan,

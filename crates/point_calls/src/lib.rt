@@ -1,4 +1,6 @@
 // The calls on a set of points. In the order of a call, and of reading: `paths`, `sight`, then `reads` or `writes`.
+#![tactic(auto)]
+
 use schema::{Entry, Path};
 use terms::{EntryNo, RecordNo, Status};
 
@@ -8,7 +10,7 @@ pub mod sight;
 pub mod writes;
 
 // The set and the path that a call on points speaks of, and the path's masters, where the status is Done.
-#[derive(Drop)]
+#[derive(Clone, Copy)]
 pub struct Located {
     pub status: Status,
     pub number: EntryNo,
@@ -19,7 +21,7 @@ pub struct Located {
 }
 
 // The record of the named master, where the status is Done.
-#[derive(Drop)]
+#[derive(Clone, Copy)]
 pub struct Sighted {
     pub status: Status,
     pub master: RecordNo,

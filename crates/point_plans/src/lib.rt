@@ -1,4 +1,6 @@
 // The adds and DELVD: what a point's call reads on every path of its set, what it refuses, and the plan of what it stores.
+#![tactic(auto)]
+
 ghost use Rattle.std.specs.Prelude.{◌≡◌, cond, List, ℕ, ◌<◌, length, take};
 ghost use Rattle.terms.specs.declared.Status.TheVariants.{Done, Full, Damg};
 ghost use Rattle.schema.specs.declared.Schema.{Schema};
@@ -34,21 +36,21 @@ pub mod search;
 pub mod sides;
 
 // The path that a call names, and the record of its master.
-#[derive(Drop)]
+#[derive(Clone, Copy)]
 pub struct NamedPath {
     pub on: usize,
     pub master: RecordNo,
 }
 
 // What the search for one path's master came to: a refusal, or, where the status is Done, where its record lies.
-#[derive(Drop)]
+#[derive(Clone, Copy)]
 pub struct Owner {
     pub status: Status,
     pub part: Part,
 }
 
 // The same of all paths.
-#[derive(Drop)]
+#[derive(Clone, Copy)]
 pub struct Owners {
     pub status: Status,
     pub parts: [Part; 4],

@@ -3,3 +3,4 @@
 // addresses (Nodes), what a call on one record leaves of everything else (PointSteps), WRITV (WriteSteps); the change of one
 // chain (RowChange), a record's place in it, and no damage met (Neighbours); a record linked or unlinked on all paths by deeds (Sides), the adds
 // (AddSteps) and DELVD (DelSteps).
+#![tactic(auto)]

@@ -1,5 +1,7 @@
 // C entries to the proved leaves, so that tests and examples in C and Rust can compare and show them. Each takes buffers of any length and
 // contents and refuses what is bad by its answer.
+#![tactic(auto)]
+
 ghost use Rattle.std.specs.Prelude.{◌≡◌, ◌<◌};
 ghost use Rattle.blocks.specs.declared.Check.TheVariants.{Sum};
 ghost use Rattle.schema.specs.Place.{LiesIn};

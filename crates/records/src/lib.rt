@@ -1,9 +1,10 @@
 // The fields of a record.
+#![tactic(auto)]
 
 pub mod fields;
 
 // A record's neighbours on one path, as its two link words: 0 is none.
-#[derive(Drop)]
+#[derive(Clone, Copy)]
 pub struct Link {
     pub prior: u32,
     pub next: u32,

@@ -1,6 +1,8 @@
 // Every rule that document 01, "Blocks and the schema", makes for the schema's form: each function answers what one definition of
 // specs/Rules.antt says. `s` is the schema buffer, `i` an entry's number, `j` a slot's number within its entry, and `p` and `q` number
 // the slots of all entries in schema order. Tests are joined by `&` and `|`, with no early way out: a schema that is in use breaks none.
+#![tactic(auto)]
+
 ghost use Rattle.std.specs.Prelude.{◌≡◌, cond, ◌+◌, ◌*◌, ◌≤◌, ◌<◌, ltb, length};
 ghost use Rattle.octets.specs.Octets.{run, all_zero, same_bytes};
 ghost use Rattle.octets.specs.Below.{all_below};

@@ -1,5 +1,7 @@
 // The scans of a set, of either kind: the lowest-numbered free record, and the next live one. A scan goes from stretch to stretch as the
 // layout hands them out, block by block. In a stretch the records lie one behind the other: from state to state there is no division.
+#![tactic(auto)]
+
 ghost use Rattle.std.specs.Prelude.{◌≡◌, ◌+◌, ◌*◌, ◌-◌, ◌≤◌, ◌<◌, length};
 ghost use Rattle.octets.specs.Below.{lowest_from};
 ghost use Rattle.schema.specs.Place.{LiesIn};

@@ -1,4 +1,6 @@
 // The schema: what it says once it is decoded, and where its sets lie.
+#![tactic(auto)]
+
 ghost use Rattle.std.specs.Prelude.{◌≡◌, ◌<◌, get_or};
 ghost use Rattle.schema.specs.Naming.{link_of};
 
@@ -7,7 +9,7 @@ use terms::{BlockNo, EntryNo, Reference};
 pub mod layout;
 
 // A path of a variable set, with what every call on it needs.
-#[derive(Drop)]
+#[derive(Clone, Copy)]
 pub struct Path {
     pub letters: [u8; 2], // xx
     pub master: EntryNo,
@@ -28,7 +30,7 @@ impl Path {
 }
 
 // A set, with its layout.
-#[derive(Drop)]
+#[derive(Clone, Copy)]
 pub struct Entry {
     pub name: u32, // the four characters
     pub kind: u8, // 1 master, 2 variable
@@ -44,7 +46,7 @@ pub struct Entry {
     pub paths: [Path; 4],
 }
 
-#[derive(Drop)]
+#[derive(Clone, Copy)]
 pub struct Schema {
     pub edition: u8, // byte 0
     pub masters: u8, // M
@@ -54,21 +56,21 @@ pub struct Schema {
 }
 
 // Where a record lies: a part of the data base that starts in the middle of its block.
-#[derive(Drop)]
+#[derive(Clone, Copy)]
 pub struct Part {
     pub at: u32, // where it begins
     pub size: u16, // L, its length
 }
 
 // Records of a set that lie one behind the other in one block.
-#[derive(Drop)]
+#[derive(Clone, Copy)]
 pub struct Stretch {
     pub at: u32, // where the first begins
     pub count: u32, // how many there are
 }
 
 // The answer of decoding: whether the schema keeps every rule, and if so what it says.
-#[derive(Drop)]
+#[derive(Clone, Copy)]
 pub struct Decoded {
     pub ok: bool,
     pub schema: Schema,

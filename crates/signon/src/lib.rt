@@ -1,5 +1,7 @@
 // Sign-on: is the data base sound? One pass over it: first the checks of all blocks; then, set by set, the bytes, and where these are clean
 // the masters or the paths. Master sets come first in the schema, so a path's masters are judged before its chains are ridden.
+#![tactic(auto)]
+
 ghost use Rattle.std.specs.Prelude.{◌≡◌, length};
 ghost use Rattle.octets.specs.Below.{all_below};
 ghost use Rattle.schema.specs.Decode.{set_count};

@@ -12,7 +12,7 @@ use schema::{Entry, Path};
 use terms::{Key, RecordNo};
 
 // A ride along a chain: whether it came to 0 with every record in order, how many records it met, and the last of them.
-#[derive(Drop)]
+#[derive(Clone, Copy)]
 pub struct Ridden {
     pub ok: bool,
     pub count: u32,
@@ -20,7 +20,7 @@ pub struct Ridden {
 }
 
 // What a master adds to the judgement of a path: whether its chain is in order, and how many points it has.
-#[derive(Drop)]
+#[derive(Clone, Copy)]
 pub struct Chain {
     pub ok: bool,
     pub count: u32,

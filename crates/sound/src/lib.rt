@@ -1,1 +1,2 @@
 // Sign-on's judgement: whether a data base is sound.
+#![tactic(auto)]

@@ -5,7 +5,7 @@ ghost use Rattle.store.specs.Kinds.{master_operation, point_operation, operation
 use terms::Operation;
 
 // The calls on masters: ADD-M, DEL-M, READM, WRITM, RQLOC.
-#[derive(Drop)]
+#[derive(Clone, Copy)]
 pub enum OnMasters {
     Add,
     Delete,
@@ -15,7 +15,7 @@ pub enum OnMasters {
 }
 
 // The calls on points: READV, READR, READD, WRITV, ADDVC, ADDVB, ADDVA, DELVD.
-#[derive(Drop)]
+#[derive(Clone, Copy)]
 pub enum OnPoints {
     ReadNext,
     ReadPrior,
@@ -27,7 +27,7 @@ pub enum OnPoints {
     Delete,
 }
 
-#[derive(Drop)]
+#[derive(Clone, Copy)]
 pub enum Kind {
     Format,
     SignOn,

@@ -1,4 +1,6 @@
 // The store: one call, with document 01's parameters. A call reads and tests, makes a plan, and commits it.
+#![tactic(auto)]
+
 ghost use Rattle.std.specs.Prelude.{◌≡◌, ◌+◌, ◌*◌, length, cond};
 ghost use Rattle.terms.specs.declared.Status.TheVariants.{Done, Damg};
 ghost use Rattle.sound.specs.Sound.{sound};

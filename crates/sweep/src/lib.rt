@@ -1,4 +1,6 @@
 // RDNXT: the live records of a set of either kind, one after the other by their numbers.
+#![tactic(auto)]
+
 ghost use Rattle.std.specs.Prelude.{◌≡◌, ◌*◌, ◌≤◌, length};
 ghost use Rattle.schema.specs.Naming.{set_named};
 ghost use Rattle.records.specs.Areas.{area_length};
@@ -15,7 +17,7 @@ use schema::{Entry, Schema};
 use terms::{EntryNo, Operation, Reference, Status};
 
 // The set that the call speaks of, where the status is Done.
-#[derive(Drop)]
+#[derive(Clone, Copy)]
 pub struct AnySet {
     pub status: Status,
     pub entry: Entry,

@@ -1,4 +1,6 @@
 // The words of document 01: numbers that are counted apart, the key, the reference, the status and the operation.
+#![tactic(auto)]
+
 ghost use Rattle.std.specs.Prelude.{◌≡◌, ◌+◌, ◌*◌, ◌≤◌, ◌<◌, length};
 ghost use Rattle.octets.specs.Octets.{same_bytes, word_sum, all_blank, run};
 ghost use Rattle.terms.specs.Terms.{key_of, key_from, end_ref, link_ref, home_of};
@@ -6,27 +8,27 @@ ghost use Rattle.terms.specs.Status.{status_number, status_code};
 ghost use Rattle.terms.specs.Operation.{operation_of};
 
 // "Record numbers, block numbers and schema entry numbers are counted apart."
-#[derive(Drop)]
+#[derive(Clone, Copy)]
 pub struct RecordNo(pub u32);
 
-#[derive(Drop)]
+#[derive(Clone, Copy)]
 pub struct BlockNo(pub u32);
 
-#[derive(Drop)]
+#[derive(Clone, Copy)]
 pub struct EntryNo(pub u8);
 
 // A key is its first `len` bytes; document 01's lengths are 4, 8, 12 and 16.
-#[derive(Drop)]
+#[derive(Clone, Copy)]
 pub struct Key {
     pub bytes: [u8; 16],
     pub len: usize,
 }
 
-#[derive(Drop)]
+#[derive(Clone, Copy)]
 pub struct Reference(pub u32);
 
 // What a call answers.
-#[derive(Drop)]
+#[derive(Clone, Copy)]
 pub enum Status {
     Done,
     Schm,
@@ -48,7 +50,7 @@ pub enum Status {
 }
 
 // The sixteen calls, and what is none of them.
-#[derive(Drop)]
+#[derive(Clone, Copy)]
 pub enum Operation {
     Formt,
     Sinon,

@@ -2,12 +2,14 @@
 // does and prints is proved in the crate `console`; here bytes are read, cut into lines, and written. The contracts say where the program
 // stands after the bytes that it has taken: the line's number, what is kept of the line, the data base. What is written is not stated: the
 // kit has no statement on it. Nor does `libc::read` say which bytes it brought.
+#![tactic(auto)]
+
 ghost use Rattle.std.specs.Prelude.{◌≡◌, ℕ, ◌≤◌, not, List, length, ◌==◌};
 ghost use Rattle.console.specs.Console.{Replied, responded};
 ghost use Rattle.console.specs.Session.{Stand, begun, byte_taken, bytes_taken, last_reply, StandsAt, Leads};
 
 // The line that is being read: its number, and how many of its bytes are kept.
-#[derive(Drop)]
+#[derive(Clone, Copy)]
 struct Progress {
     number: u64,
     len: usize,
@@ -86,7 +88,7 @@ fn take_bytes(
 }
 
 // What one read brought.
-#[derive(Drop)]
+#[derive(Clone, Copy)]
 struct Turn {
     progress: Progress,
     more: bool,
