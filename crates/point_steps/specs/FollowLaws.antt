@@ -50,8 +50,7 @@ module _ (t : Schema) (b c : List ℕ) (i j : ℕ) where
         nodes : (r : ℕ) → Mine t b i j (master_key b (masters_at t i j) m) r
             → (next_node t c i j q r ≡ next_node t b i j m r) × (prior_node t c i j q r ≡ prior_node t b i j m r)
         nodes r h =
-            let s = h.0.0 in
-            (
+            let s = h.0.0 in (
               next_node_at t c i j q r s.0 ∙ same.next r s ∙ sym (next_node_at t b i j m r s.0),
               prior_node_at t c i j q r s.0 ∙ same.prior r s ∙ sym (prior_node_at t b i j m r s.0),
             )
