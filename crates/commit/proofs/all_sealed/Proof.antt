@@ -8,7 +8,7 @@ use borrow.Author.Rules.{rules}
 use borrow.Author.Tests.{not-true, not-false}
 use Rattle.blocks.specs.Blocks.{is_sealed}
 use Rattle.commit.specs.Touched.{numbers_of, all_sealed}
-use Rattle.commit.specs.TouchedLaws.{blocks-turn, blocks_fail, blocks_end, block_within}
+use Rattle.commit.specs.TouchedLaws.{blocks-turn, blocks_fail, blocks_end, block_within_lem}
 use Rattle.commit.proofs.all_sealed.Statement.{statement}
 use Rattle.commit.proofs.all_sealed.Tie as tie
 use Rattle.commit.proofs.all_sealed.Reads as reads
@@ -28,7 +28,7 @@ sealed-requires : tie.Need-sealed-requires invariant-loop decreases-loop
 sealed-requires c κs =
     let l = c.before.before in
     let s = l.before.before in
-    block_within s.args.t2 (whole s) (omega arith) (length s.args.base.now) l.loop.j s.requires.1 (omega arith)
+    block_within_lem s.args.t2 (whole s) (omega arith) (length s.args.base.now) l.loop.j s.requires.1 (omega arith)
 
 returns : tie.Need-returns invariant-loop decreases-loop
 returns c =

@@ -6,7 +6,7 @@ use native.Mathlib.Omega.{arith}
 use lib.ListN.{length, drop, length-map}
 use borrow.Author.Rules.{rules}
 use Rattle.commit.specs.Touched.{numbers_of, seal_each}
-use Rattle.commit.specs.TouchedLaws.{block_within, seal-turn, seal_end}
+use Rattle.commit.specs.TouchedLaws.{block_within_lem, seal-turn, seal_end}
 use Rattle.commit.proofs.seal_all.Statement.{statement}
 use Rattle.commit.proofs.seal_all.Tie as tie
 use Rattle.commit.proofs.seal_all.Reads as reads
@@ -26,7 +26,7 @@ seal-requires : tie.Need-seal-requires invariant-loop decreases-loop
 seal-requires c κs =
     let l = c.before.before.before in
     let s = l.before.before in
-    rw l.loop.invariant.1 (block_within s.args.t2 (whole s) (omega arith) (length s.args.base.now) l.loop.k s.requires.1 (omega arith))
+    rw l.loop.invariant.1 (block_within_lem s.args.t2 (whole s) (omega arith) (length s.args.base.now) l.loop.k s.requires.1 (omega arith))
 
 loop-again : tie.Need-loop-preserved invariant-loop decreases-loop
 loop-again c =
