@@ -54,15 +54,30 @@ fn records_of_functions() {
 
 #[test]
 fn the_row_of_a_table() {
-    assert_eq!(made("fromTable", 1).unwrap(), 10);
-    assert_eq!(made("fromTable", 3).unwrap(), 30);
-    assert_eq!(made("fromTable", 4).unwrap(), 0);
+    assert_eq!(made("from_table", 1).unwrap(), 10);
+    assert_eq!(made("from_table", 3).unwrap(), 30);
+    assert_eq!(made("from_table", 4).unwrap(), 0);
 }
 
 // What a table has for others is not looked at, nor are the rows behind.
 #[test]
 fn no_row_is_evaluated_but_the_one_that_is_taken() {
-    assert!(made("fromTable", 2).is_err());
-    assert_eq!(made("fromGuardedTable", 1).unwrap(), 1);
-    assert!(made("fromGuardedTable", 2).is_err());
+    assert!(made("from_table", 2).is_err());
+    assert_eq!(made("from_guarded_table", 1).unwrap(), 1);
+    assert!(made("from_guarded_table", 2).is_err());
+}
+
+#[test]
+fn a_choice_in_words() {
+    assert_eq!(made("graded", 2).unwrap(), 1);
+    assert_eq!(made("graded", 3).unwrap(), 2);
+    assert_eq!(made("graded", 4).unwrap(), 7);
+    assert_eq!(made("guarded", 1).unwrap(), 1);
+    assert!(made("guarded", 2).is_err());
+}
+
+#[test]
+fn elements_of_a_list_and_past_its_end() {
+    assert_eq!(made("picked", 1).unwrap(), 5 + 20);
+    assert_eq!(made("picked", 2).unwrap(), 30);
 }
