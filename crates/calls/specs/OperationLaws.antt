@@ -17,31 +17,31 @@ abbrev by_number : ℕ → Operation
 by_number k = get_or operations k Unknown
 
 -- the operation comes back, and its number is below 17
-by_number : (u : Operation) → (by_number (operation_number u) ≡ u) × (operation_number u < 17)
-by_number Formt = (refl, lit< tt)
-by_number Sinon = (refl, lit< tt)
-by_number AddM = (refl, lit< tt)
-by_number DelM = (refl, lit< tt)
-by_number Readm = (refl, lit< tt)
-by_number Writm = (refl, lit< tt)
-by_number Rqloc = (refl, lit< tt)
-by_number Rdnxt = (refl, lit< tt)
-by_number Readv = (refl, lit< tt)
-by_number Readr = (refl, lit< tt)
-by_number Readd = (refl, lit< tt)
-by_number Writv = (refl, lit< tt)
-by_number Addvc = (refl, lit< tt)
-by_number Addvb = (refl, lit< tt)
-by_number Addva = (refl, lit< tt)
-by_number Delvd = (refl, lit< tt)
-by_number Unknown = (refl, lit< tt)
+by_number_lem : (u : Operation) → (by_number (operation_number u) ≡ u) × (operation_number u < 17)
+by_number_lem Formt = (refl, lit< tt)
+by_number_lem Sinon = (refl, lit< tt)
+by_number_lem AddM = (refl, lit< tt)
+by_number_lem DelM = (refl, lit< tt)
+by_number_lem Readm = (refl, lit< tt)
+by_number_lem Writm = (refl, lit< tt)
+by_number_lem Rqloc = (refl, lit< tt)
+by_number_lem Rdnxt = (refl, lit< tt)
+by_number_lem Readv = (refl, lit< tt)
+by_number_lem Readr = (refl, lit< tt)
+by_number_lem Readd = (refl, lit< tt)
+by_number_lem Writv = (refl, lit< tt)
+by_number_lem Addvc = (refl, lit< tt)
+by_number_lem Addvb = (refl, lit< tt)
+by_number_lem Addva = (refl, lit< tt)
+by_number_lem Delvd = (refl, lit< tt)
+by_number_lem Unknown = (refl, lit< tt)
 
 -- the operation that a list of one names
-pub one_of : (u v : Operation) → one_of u (v ∷ []) ≡ true → u ≡ v
-one_of u v h =
-    sym (by_number u).0
+pub one_of_lem : (u v : Operation) → one_of u (v ∷ []) ≡ true → u ≡ v
+one_of_lem u v h =
+    sym (by_number_lem u).0
     ∙ ap by_number (eqb-true (operation_number u) (operation_number v) (or_false (eqb (operation_number u) (operation_number v)) h))
-    ∙ (by_number v).0
+    ∙ (by_number_lem v).0
   where
     or_false : (a : Bool) → (a || false) ≡ true → a ≡ true
     or_false true h = refl
@@ -62,7 +62,7 @@ every_at f (u ∷ us) zero h l = ((and-eq-true_iff (f u) (every_of f us)).0 h).0
 every_at f (u ∷ us) (suc k) h l = every_at f us k ((and-eq-true_iff (f u) (every_of f us)).0 h).1 (omega arith)
 
 pub each_operation : (f : Operation → Bool) → every_operation f ≡ true → (u : Operation) → f u ≡ true
-each_operation f h u = sym (ap f (by_number u).0) ∙ every_at f operations (operation_number u) h (by_number u).1
+each_operation f h u = sym (ap f (by_number_lem u).0) ∙ every_at f operations (operation_number u) h (by_number_lem u).1
 
 -- a test that all of a group pass, and one that none of it does
 pub all_of : (f g : Operation → Bool) → every_operation (λ u. not (f u) || g u) ≡ true → (u : Operation) → f u ≡ true → g u ≡ true
@@ -86,5 +86,5 @@ by-operation P [] h u other = other refl
 by-operation P (v ∷ vs) h u other = go (eqb (operation_number u) (operation_number v)) refl (by-operation P vs h.1 u)
   where
     go : (b : Bool) → eqb (operation_number u) (operation_number v) ≡ b → ((one_of u vs ≡ false → P u) → P u) → P u
-    go true e more = rw (one_of u v (rw e refl)) h.0
+    go true e more = rw (one_of_lem u v (rw e refl)) h.0
     go false e more = more (λ k. other (rw e k))

@@ -9,9 +9,9 @@ use Rattle.cases.specs.Small.{two_sets}
 use Rattle.cases.specs.Cases.{Case, after, ask, play, places, table, right, all_right}
 
 -- every definition on the way is opened, and the whole table computes to true
-all_right : all_right table ≡ true
+table_right : all_right table ≡ true
 unfolding opened two_sets small_schema bottle_call places play ask table right all_right
-all_right = refl
+table_right = refl
 
 -- past the table's end
 abbrev pub no_case : Case
@@ -26,4 +26,4 @@ all_at (c ∷ cs) (suc k) h l = all_at cs k ((and-eq-true_iff (right c) (all_rig
 -- the rule of each row
 pub case : (k : ℕ) → k < length table → ask (get_or table k no_case).question ≡ (get_or table k no_case).answer
 unfolding right
-case k h = same_bytes_eq _ _ (all_at table k all_right h)
+case k h = same_bytes_eq _ _ (all_at table k table_right h)

@@ -63,8 +63,8 @@ module _ (s : Blocks) (whole : length s.numbers ≡ 12) (few : s.count ≤ 12) w
   pub blocks_end : (f : ℕ → Bool) (i : ℕ) → s.count ≤ i → every f (drop i (numbers_of s)) ≡ true
   blocks_end f i h = every_end f (numbers_of s) i (omega (arith, count-blocks))
 
-  pub block_within : (n i : ℕ) → AllWithin n (numbers_of s) → i < s.count → block_at (get_or s.numbers i no_block).0 + 512 ≤ n
-  block_within n i w h = rw (block_is i h) at (leb-true (block_at (get_or (numbers_of s) i 0) + 512) n (every_at (block_within n) (numbers_of s) i w (omega (arith, count-blocks))))
+  pub block_within_lem : (n i : ℕ) → AllWithin n (numbers_of s) → i < s.count → block_at (get_or s.numbers i no_block).0 + 512 ≤ n
+  block_within_lem n i w h = rw (block_is i h) at (leb-true (block_at (get_or (numbers_of s) i 0) + 512) n (every_at (block_within n) (numbers_of s) i w (omega (arith, count-blocks))))
 
   pub seal-turn : (k : Check) (b : List ℕ) (i : ℕ) → i < s.count → seal_each k b (drop i (numbers_of s)) ≡ seal_each k (seal k b (get_or s.numbers i no_block).0) (drop (i + 1) (numbers_of s))
   unfolding seal_each

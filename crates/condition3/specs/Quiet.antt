@@ -28,7 +28,7 @@ use Rattle.calls.specs.Call.{Call, one_of, adds}
 use Rattle.calls.specs.Scene.{Scene, scene_under}
 use Rattle.calls.specs.Ladder.{way_damaged, finders, general_rungs, added_rungs, own_rungs, other_rungs, final_rungs, ladder, refuses}
 use Rattle.calls.specs.Ladder.Rung.{NoPoints, MasterRoom, PointRoom}
-use Rattle.calls.specs.OperationLaws.{one_of}
+use Rattle.calls.specs.OperationLaws.{one_of_lem}
 use Rattle.calls.specs.LadderLaws.{Passes}
 use Rattle.calls.specs.Outcome.{outcome}
 use Rattle.calls.specs.Theorems.{status_of_ladder}
@@ -135,10 +135,10 @@ module _ (c : Call) (rows : ℕ → ℕ → List ℕ → List ℕ) (g : Ready c.
         calm_test (inr (if_asked (one_of o (Delvd ∷ [])) _ (λ q. if_asked (not (eqb k j)) _ (λ d. not_missing (find_on b t e k (key_on b e c.reference (path_of e k))) (at q k l))))) (λ d. tt)))
       where
         del_path : one_of o (Delvd ∷ []) ≡ true → (k : ℕ) → k < e.count → IsPathOf t n k
-        del_path q k l = let u = one_of o Delvd q in let m = (on-points t g.world.ok c p (rw u refl) (rw u refl)).0 in (m.0, m.1, l)
+        del_path q k l = let u = one_of_lem o Delvd q in let m = (on-points t g.world.ok c p (rw u refl) (rw u refl)).0 in (m.0, m.1, l)
 
         at : one_of o (Delvd ∷ []) ≡ true → (k : ℕ) → k < e.count → is_at (find_on b t e k (key_on b e c.reference (path_of e k))) ≡ true
-        at q k l = own-found t g.world b rows g.stands n c.reference (del_tests t g.world.ok c p f (one_of o Delvd q)) k l
+        at q k l = own-found t g.world b rows g.stands n c.reference (del_tests t g.world.ok c p f (one_of_lem o Delvd q)) k l
 
     calm_others : Passes x c found_rungs → Calm x c (other_rungs x.entry.count)
     unfolding scene_under
@@ -146,15 +146,15 @@ module _ (c : Call) (rows : ℕ → ℕ → List ℕ → List ℕ) (g : Ready c.
 
     module _ (f : Passes x c found_rungs) (h : Passes x c (other_rungs x.entry.count)) where
       readv-quiet : one_of o (Readv ∷ []) ≡ true → way_damaged x c (forward x c) ≡ false
-      readv-quiet q = let u = one_of o Readv q in forward-quiet c rows g p f (rw u refl) (rw u refl) (rw u refl) (rw u refl) (rw u refl)
+      readv-quiet q = let u = one_of_lem o Readv q in forward-quiet c rows g p f (rw u refl) (rw u refl) (rw u refl) (rw u refl) (rw u refl)
 
       readr-quiet : one_of o (Readr ∷ []) ≡ true → way_damaged x c (backward x c) ≡ false
-      readr-quiet q = let u = one_of o Readr q in backward-quiet c rows g p f (rw u refl) (rw u refl) (rw u refl) (rw u refl) (rw u refl)
+      readr-quiet q = let u = one_of_lem o Readr q in backward-quiet c rows g p f (rw u refl) (rw u refl) (rw u refl) (rw u refl) (rw u refl)
 
       addm-quiet : one_of o (AddM ∷ []) ≡ true → add_master_damaged b x.entry (home_of_key x c) ≡ false
       unfolding scene_under
       addm-quiet q =
-          let u = one_of o AddM q in
+          let u = one_of_lem o AddM q in
           let m = (of_masters t g.world.ok c p (rw u refl) (rw u refl)).0 in
           let s = (g.world.ok.set n (omega arith)).some in
           rw u (add-master-quiet b e s (g.stands.masters n m) (home_in e c.key) (home_in_set e.records c.key s))
@@ -163,7 +163,7 @@ module _ (c : Call) (rows : ℕ → ℕ → List ℕ → List ℕ) (g : Ready c.
           → del_master_damaged b x.entry (home_of_key x c) (master_in x) ≡ false
       unfolding scene_under
       delm-quiet q i =
-          let u = one_of o DelM q in
+          let u = one_of_lem o DelM q in
           let d = del_master-tests t g.world.ok c p f u i in
           let s = (g.world.ok.set n (omega (arith, d.set))).some in
           let ms = g.stands.masters n d.set in
@@ -181,7 +181,7 @@ module _ (c : Call) (rows : ℕ → ℕ → List ℕ → List ℕ) (g : Ready c.
 
       delvd-quiet : one_of o (Delvd ∷ []) ≡ true → del_damaged b x.schema x.entry c.reference ≡ false
       unfolding scene_under
-      delvd-quiet q = del_quiet t g.world b rows g.stands n c.reference (del_tests t g.world.ok c p f (one_of o Delvd q))
+      delvd-quiet q = del_quiet t g.world b rows g.stands n c.reference (del_tests t g.world.ok c p f (one_of_lem o Delvd q))
 
       -- every block stored into has a true check
       module _ (im : refuses x c NoPoints ≡ false)
@@ -190,12 +190,12 @@ module _ (c : Call) (rows : ℕ → ℕ → List ℕ → List ℕ) (g : Ready c.
         sealed : Storable (check_by t.edition) b (stores_of x c)
         unfolding scene_under stores_of blocks_sealed
         sealed =
-            row (one_of o (AddM ∷ [])) (λ q. let u = one_of o AddM q in fits (rw u (add-master-storable t g.world b rows g.stands n c.key (full_area x c) (add-master-tests t g.world.ok c p f u fm))))
-            (row (one_of o (DelM ∷ [])) (λ q. let u = one_of o DelM q in fits (rw u (del_master-storable t g.world b rows g.stands n c.key (del_master-tests t g.world.ok c p f u im))))
-            (row (one_of o (Writm ∷ [])) (λ q. let u = one_of o Writm q in fits (rw u (write_master-storable t g.world b rows g.stands n c.key (full_area x c) (write_master-tests t g.world.ok c p f u))))
-            (row (one_of o (Writv ∷ [])) (λ q. fits (write_storable t g.world b rows g.stands n c.reference (full_area x c) (write_tests t g.world.ok c p f (one_of o Writv q))))
+            row (one_of o (AddM ∷ [])) (λ q. let u = one_of_lem o AddM q in fits (rw u (add-master-storable t g.world b rows g.stands n c.key (full_area x c) (add-master-tests t g.world.ok c p f u fm))))
+            (row (one_of o (DelM ∷ [])) (λ q. let u = one_of_lem o DelM q in fits (rw u (del_master-storable t g.world b rows g.stands n c.key (del_master-tests t g.world.ok c p f u im))))
+            (row (one_of o (Writm ∷ [])) (λ q. let u = one_of_lem o Writm q in fits (rw u (write_master-storable t g.world b rows g.stands n c.key (full_area x c) (write_master-tests t g.world.ok c p f u))))
+            (row (one_of o (Writv ∷ [])) (λ q. fits (write_storable t g.world b rows g.stands n c.reference (full_area x c) (write_tests t g.world.ok c p f (one_of_lem o Writv q))))
             (row (one_of o adds) (λ q. fits (add-storable t g.world b rows g.stands n j (full_area x c) (spot_of o c.reference) (add-points q fa)))
-            (row (one_of o (Delvd ∷ [])) (λ q. fits (del_storable t g.world b rows g.stands n c.reference (del_tests t g.world.ok c p f (one_of o Delvd q)))) (fits refl))))))
+            (row (one_of o (Delvd ∷ [])) (λ q. fits (del_storable t g.world b rows g.stands n c.reference (del_tests t g.world.ok c p f (one_of_lem o Delvd q)))) (fits refl))))))
 
       calm_final : Calm x c final_rungs
       unfolding scene_under

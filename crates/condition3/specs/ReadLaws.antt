@@ -9,13 +9,13 @@ use Rattle.schema.specs.declared.Schema.{Schema}
 use Rattle.schema.specs.Decode.{path_of, masters_on}
 use Rattle.records.specs.Records.{master_key}
 use Rattle.chains.specs.Members.{All, In}
-use Rattle.chains.specs.Segments.{Run, seg-run, seg-reverse, headed-at}
+use Rattle.chains.specs.Segments.{Run, seg-run, seg-reverse}
 use Rattle.sound.specs.KeyLaws.{Live}
 use Rattle.calls.specs.Call.{Call}
 use Rattle.calls.specs.Reply.{given_by, given, reference_after, area_after}
 use Rattle.calls.specs.Outcome.{done, outcome}
 use Rattle.kept_state.specs.Rows.{Mine, next_node, prior_node}
-use Rattle.point_steps.specs.RowFacts.{row-chain}
+use Rattle.point_steps.specs.RowFacts.{next_node_at, prior_node_at, row-chain}
 use Rattle.point_steps.specs.Neighbours.{read-quiet}
 use Rattle.condition3.specs.Readings.{request_of, Fixed, schema_in, Lent, under, reader_of, Reads, Place, set_no, entry_named, path_no, IsPlace, Exists, readv, readr, link}
 use Rattle.condition3.specs.Shown.{shown, Ready}
@@ -104,8 +104,8 @@ module _ (f : Fixed) (d : Lent) (rows : ℕ → ℕ → List ℕ → List ℕ) (
     given-link false = rw ((at_link false).link, (grants false 0).found) refl
 
     given_record : (back : Bool) (r : ℕ) → mine r → given_by (read_of back) (chain_scene back (call back r)) (call back r) ≡ lead back r
-    given_record true r h = rw (at_record true r h).link (sym (headed-at _ _ r h.0.0.0))
-    given_record false r h = rw (at_record false r h).link (sym (headed-at _ _ r h.0.0.0))
+    given_record true r h = rw (at_record true r h).link (sym (prior_node_at t b i j m r h.0.0.0))
+    given_record false r h = rw (at_record false r h).link (sym (next_node_at t b i j m r h.0.0.0))
 
     -- and answers it
     answers : (back linked : Bool) (r n : ℕ) → Followed linked (call back r) → given_by (read_of back) (chain_scene back (call back r)) (call back r) ≡ n

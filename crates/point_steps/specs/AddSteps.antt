@@ -26,11 +26,10 @@ use Rattle.plans.specs.Plan.{Store, store_record, blocks_sealed, committed}
 use Rattle.points.specs.declared.Spot.{Spot}
 use Rattle.points.specs.PlaceLaws.{new_place_in, new_place_free}
 use Rattle.points.specs.Points.{spot_on, add_link, add_place, add_stores}
-use Rattle.chains.specs.Segments.{headed-at}
 use Rattle.kept_state.specs.Deeds.{stores_for, after}
 use Rattle.kept_state.specs.Rows.{World, Represents, inserted}
 use Rattle.kept_state.specs.Tests.{AddTests}
-use Rattle.point_steps.specs.RowFacts.{path_numbered}
+use Rattle.point_steps.specs.RowFacts.{path_numbered, next_node_at, prior_node_at}
 use Rattle.point_steps.specs.Nodes.{node}
 use Rattle.kept_state.specs.AreaMade.{area-made}
 use Rattle.point_steps.specs.PointSteps.{PointStep}
@@ -100,10 +99,10 @@ module _ (t : Schema) (w : World t) (b : List ℕ) (rows : ℕ → ℕ → List 
 
     node-new : (way : Bool) → node t left way i k (call.master k) call.at ≡ side_of (not way) (call.link k)
     node-new true =
-        headed-at _ _ call.at add-new.0.0 ∙ linked-word adding (next k) path refl
+        next_node_at t left i k (call.master k) call.at add-new.0.0 ∙ linked-word adding (next k) path refl
         ∙ (rw linked at (new-variable-next (entry_of t i) links area fields variable ok.area-length k l (rw linked (side-small adding k l false))))
     node-new false =
-        headed-at _ _ call.at add-new.0.0 ∙ linked-word adding (prior k) path refl
+        prior_node_at t left i k (call.master k) call.at add-new.0.0 ∙ linked-word adding (prior k) path refl
         ∙ (rw linked at (new-variable-prior (entry_of t i) links area fields variable ok.area-length k l (rw linked (side-small adding k l true))))
 
   pub add-storable : blocks_sealed (check_by t.edition) b (add_stores b t (entry_of t i) area spot named (add_place b t (entry_of t i) area spot named)) ≡ true

@@ -9,13 +9,13 @@ use Rattle.schema.specs.Decode.{entry_of, path_of}
 use Rattle.schema.specs.Guarantee.{IsPathOf}
 use Rattle.records.specs.Records.{master_key, key_on, first_on, last_on}
 use Rattle.chains.specs.Members.{all_map}
-use Rattle.chains.specs.Segments.{Seg, headed-at, seg_frame}
+use Rattle.chains.specs.Segments.{Seg, seg_frame}
 use Rattle.sound.specs.KeyLaws.{Live}
 use Rattle.kept_state.specs.Frames.{SameMasters, SameHeads, SamePoints, Moved}
 use Rattle.kept_state.specs.Rows.{World, next_node, prior_node, Mine, PathRows, Represents}
 use Rattle.master_steps.specs.RowLaws.{same_masters}
 use Rattle.master_steps.specs.MasterStep.{MasterStep}
-use Rattle.point_steps.specs.RowFacts.{path_numbered, masters_at, row-none, row-bare}
+use Rattle.point_steps.specs.RowFacts.{path_numbered, masters_at, next_node_at, prior_node_at, row-none, row-bare}
 
 -- ---- one path
 
@@ -45,13 +45,15 @@ module _ (t : Schema) (b c : List ℕ) (i j : ℕ) where
         let key = master_key b (masters_at t i j) m in
         rw s.0
         (seg_frame (next_node t b i j m) (prior_node t b i j m) (next_node t c i j q) (prior_node t c i j q) 0 (rows key) 0 s.1 s.2
-        (all_map (Mine t b i j key) _ nodes (rows key) (pr.mine key)) (pr.chain m l))
+        (all_map (Mine t b i j key) (λ r. (next_node t c i j q r ≡ next_node t b i j m r) × (prior_node t c i j q r ≡ prior_node t b i j m r)) nodes (rows key) (pr.mine key)) (pr.chain m l))
       where
         nodes : (r : ℕ) → Mine t b i j (master_key b (masters_at t i j) m) r
             → (next_node t c i j q r ≡ next_node t b i j m r) × (prior_node t c i j q r ≡ prior_node t b i j m r)
         nodes r h =
-            let s = h.0.0 in
-            (headed-at _ _ r s.0 ∙ same.next r s ∙ sym (headed-at _ _ r s.0), headed-at _ _ r s.0 ∙ same.prior r s ∙ sym (headed-at _ _ r s.0))
+            let s = h.0.0 in (
+              next_node_at t c i j q r s.0 ∙ same.next r s ∙ sym (next_node_at t b i j m r s.0),
+              prior_node_at t c i j q r s.0 ∙ same.prior r s ∙ sym (prior_node_at t b i j m r s.0),
+            )
 
     -- a master with a point did not go, so each record has its master
     still-owned : (r : ℕ) → Live c (entry_of t i) r → (q : ℕ) × Live c (masters_at t i j) q × (master_key c (masters_at t i j) q ≡ key_on c (entry_of t i) r (path_numbered t i j))

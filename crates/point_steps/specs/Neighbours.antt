@@ -24,13 +24,13 @@ use Rattle.points.specs.Chains.{bad_neighbour, uneven_ends, read_damaged}
 use Rattle.points.specs.PlaceLaws.{new_place_free}
 use Rattle.points.specs.Points.{find_on, master_on, spot_on, neighbours_at, add_master, add_link, add_place, add_damaged, own_key, own_master, own_link, del_damaged}
 use Rattle.chains.specs.Members.{In, Fresh, all_in, all_map, all_append, all_left, all_right, split_in, nodup-without}
-use Rattle.chains.specs.Segments.{NoZero, last_or, head_or, last_snoc, all_last, at_ends, at_node, headed-at}
+use Rattle.chains.specs.Segments.{NoZero, last_or, head_or, last_snoc, all_last, at_ends, at_node}
 use Rattle.sound.specs.ListLaws.{in_set_test}
 use Rattle.sound.specs.KeyLaws.{Live, MasterSet}
 use Rattle.kept_state.specs.Rows.{World, Represents, next_node, prior_node, Mine, PathRows, put_after, put_before, inserted, without}
 use Rattle.kept_state.specs.Tests.{SpotOk, AddTests, DelTests}
 use Rattle.master_steps.specs.FindLaws.{find-live, found-live}
-use Rattle.point_steps.specs.RowFacts.{path_numbered, masters_at, row_nozero, row-chain, row-nodup}
+use Rattle.point_steps.specs.RowFacts.{path_numbered, masters_at, next_node_at, prior_node_at, row_nozero, row-chain, row-nodup}
 use Rattle.point_steps.specs.RowChange.{Linkage, side_of, RowPlace, side-beside}
 
 -- ---- a list of numbers, cut at a number that stands in it once
@@ -66,7 +66,7 @@ point-cut t b i j rows m key r p l k h =
     let n = at_node (next_node t b i j m) (prior_node t b i j m) 0 c.0 r c.1 0 (rw c.2 at (row-chain t b i j rows key p m l k)) in
     let f = (nodup-without c.0 r c.1 (rw c.2 at (row-nodup t b i j rows key p))).1 in
     let z = h.0.0.0 in
-    (c.0, c.1, c.2, sym (headed-at _ _ r z) ∙ n.1, sym (headed-at _ _ r z) ∙ n.0, all_left (λ y. r ≢ y) c.0 c.1 f, all_right (λ y. r ≢ y) c.0 c.1 f)
+    (c.0, c.1, c.2, sym (prior_node_at t b i j m r z) ∙ n.1, sym (next_node_at t b i j m r z) ∙ n.0, all_left (λ y. r ≢ y) c.0 c.1 f, all_right (λ y. r ≢ y) c.0 c.1 f)
 
 module _ (t : Schema) (b : List ℕ) (i j : ℕ) (rows : List ℕ → List ℕ) (m : ℕ) (area : List ℕ) (r : ℕ) where
   abbrev keyed : List ℕ

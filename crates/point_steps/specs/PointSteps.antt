@@ -18,7 +18,6 @@ use Rattle.records.specs.Address.{Field, root-next, root-prior, own_key, body, k
 use Rattle.records.specs.AddressLaws.{address}
 use Rattle.records.specs.FieldLaws.{WordField}
 use Rattle.records.specs.WholeRecords.{Elsewhere}
-use Rattle.chains.specs.Segments.{headed-at}
 use Rattle.sound.specs.Sound.{set_clean}
 use Rattle.sound.specs.KeyLaws.{Live}
 use Rattle.kept_state.specs.Deeds.{Deed, point, whole, fill, after, Valid, AllValid, Misses, AllSpared, AllOff, Zeroed, AllZeroed}
@@ -27,7 +26,7 @@ use Rattle.kept_state.specs.SettleLaws.{sealed-after, clean_after, free_missed}
 use Rattle.kept_state.specs.Frames.{SameMasters, SameHeads, SamePoints}
 use Rattle.kept_state.specs.Rows.{World, PathRows, Represents}
 use Rattle.master_steps.specs.RowLaws.{same_masters}
-use Rattle.point_steps.specs.RowFacts.{path_numbered, masters_at, rows_same}
+use Rattle.point_steps.specs.RowFacts.{path_numbered, masters_at, next_node_at, prior_node_at, rows_same}
 use Rattle.point_steps.specs.FollowLaws.{path_frame}
 use Rattle.point_steps.specs.Nodes.{pointer, node, node-is, pointer_word, pointer-elsewhere, pointers_apart, Plain, plain-apart}
 use Rattle.kept_state.specs.AreaMade.{area_same}
@@ -85,8 +84,8 @@ module _ (t : Schema) (w : World t) (b : List ℕ) (rows : ℕ → ℕ → List 
           record {
             live = λ q s. live-missed w.ok b g.sized ds k q valid p.1 s (spared q);
             key = λ q s. run_missed w.ok b g.sized ds (address k q (key j)) valid (p.1, s, p) (keys q);
-            prior = λ q s. sym (headed-at _ _ q s.0) ∙ node-same false 1 q one s.1 ∙ headed-at _ _ q s.0;
-            next = λ q s. sym (headed-at _ _ q s.0) ∙ node-same true 1 q one s.1 ∙ headed-at _ _ q s.0;
+            prior = λ q s. sym (prior_node_at t (after t b ds) k j 1 q s.0) ∙ node-same false 1 q one s.1 ∙ prior_node_at t b k j 1 q s.0;
+            next = λ q s. sym (next_node_at t (after t b ds) k j 1 q s.0) ∙ node-same true 1 q one s.1 ∙ next_node_at t b k j 1 q s.0;
           },
           record { first = λ m s. node-same true m 0 s (omega arith); last = λ m s. node-same false m 0 s (omega arith) },
         )

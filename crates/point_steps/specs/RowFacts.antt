@@ -8,9 +8,9 @@ use Rattle.schema.specs.declared.Entry.{Entry}
 use Rattle.schema.specs.declared.Schema.{Schema}
 use Rattle.schema.specs.Decode.{entry_of, path_of, masters_on}
 use Rattle.schema.specs.Place.{InSet}
-use Rattle.records.specs.Records.{master_key, first_on}
+use Rattle.records.specs.Records.{master_key, first_on, last_on, prior_on, next_on}
 use Rattle.chains.specs.Members.{All, In, NoDup, all_map, all_in}
-use Rattle.chains.specs.Segments.{NoZero, Seg, seg-nodup}
+use Rattle.chains.specs.Segments.{NoZero, Seg, seg-nodup, headed-at}
 use Rattle.sound.specs.KeyLaws.{Live}
 use Rattle.kept_state.specs.Rows.{next_node, prior_node, Mine, PathRows}
 
@@ -20,6 +20,13 @@ path_numbered t i j = path_of (entry_of t i) j
 
 abbrev pub masters_at : Schema → ℕ → ℕ → Entry
 masters_at t i j = masters_on t (entry_of t i) j
+
+-- the pointers of a record, as the nodes of the path
+pub next_node_at : (t : Schema) (b : List ℕ) (i j m r : ℕ) → 1 ≤ r → next_node t b i j m r ≡ next_on b (entry_of t i) r (path_numbered t i j)
+next_node_at t b i j m r l = headed-at (first_on b (masters_at t i j) m (path_numbered t i j)) (λ a. next_on b (entry_of t i) a (path_numbered t i j)) r l
+
+pub prior_node_at : (t : Schema) (b : List ℕ) (i j m r : ℕ) → 1 ≤ r → prior_node t b i j m r ≡ prior_on b (entry_of t i) r (path_numbered t i j)
+prior_node_at t b i j m r l = headed-at (last_on b (masters_at t i j) m (path_numbered t i j)) (λ a. prior_on b (entry_of t i) a (path_numbered t i j)) r l
 
 module _ (t : Schema) (b : List ℕ) (i j : ℕ) (rows : List ℕ → List ℕ) (key : List ℕ) (pr : PathRows t b i j rows) where
   -- its records are numbers of the set, none of them 0

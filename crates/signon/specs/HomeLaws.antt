@@ -17,8 +17,8 @@ use Rattle.signon.specs.Judged.{in_place_at}
 pub not_live : (b : List ℕ) (e : Entry) (r : ℕ) {l : Bool} → l ≡ is_live b e r → not l ≡ true → true ≡ in_place_at b e r
 not_live b e r {l} el h = rw (← el, not-true l h) refl
 
-pub is_live : (b : List ℕ) (e : Entry) (r : ℕ) {l o : Bool} → l ≡ is_live b e r → not l ≡ false → o ≡ master_in_place b e r → o ≡ in_place_at b e r
-is_live b e r {l} el h d = rw (← el, not-false l h) d
+pub is_live_lem : (b : List ℕ) (e : Entry) (r : ℕ) {l o : Bool} → l ≡ is_live b e r → not l ≡ false → o ≡ master_in_place b e r → o ≡ in_place_at b e r
+is_live_lem b e r {l} el h d = rw (← el, not-false l h) d
 
 -- ---- a master of a home
 

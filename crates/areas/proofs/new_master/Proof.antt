@@ -19,10 +19,10 @@ is_master_lem s = eq-eqb _ _ s.requires.1.1.1
 area-long : (s : tie.Start) → length s.args.area.now ≡ s.args.e.key + s.args.e.room
 area-long s = omega (arith, s.requires.1.0, master_keys s.args.e (is_master_lem s))
 
-copy-part-requires : tie.Need-copy-part-requires
+copy-part-requires : tie.Need-copy_part-requires
 copy-part-requires c κs = (search rules, omega (arith, area-long c.before.before.before.before.before.before.before.before.before.before.before.before.before.before.before.before.before))
 
-copy-part-requires-2 : tie.Need-copy-part-requires-2
+copy-part-requires-2 : tie.Need-copy_part-requires-2
 copy-part-requires-2 c κs =
     let z = c.before.before.before.before in
     let k = z.before.before.before.before in
@@ -30,7 +30,7 @@ copy-part-requires-2 c κs =
     let n = p.before.before.before.before in
     let h = n.before.before.before.before in
     let s = h.before.before.before.before.before.before in
-    (omega (arith, z.zero.auto, k.copy-part.auto, p.put-word3.auto, n.put-word2.auto, h.put_word.auto, s.requires.0), omega (arith, area-long s))
+    (omega (arith, z.zero.auto, k.copy_part.auto, p.put_word-3.auto, n.put_word-2.auto, h.put_word.auto, s.requires.0), omega (arith, area-long s))
 
 returns : tie.Need-returns
 returns c =
@@ -42,11 +42,11 @@ returns c =
     let h = n.before.before.before.before in
     let s = h.before.before.before.before.before.before in
     let a = s.args in
-    rw (d.copy-part2.ensures, z.zero.ensures, k.copy-part.ensures, p.put-word3.ensures, n.put-word2.ensures, h.put_word.ensures)
+    rw (d.copy_part-2.ensures, z.zero.ensures, k.copy_part.ensures, p.put_word-3.ensures, n.put_word-2.ensures, h.put_word.ensures)
     (master-made a.e a.root a.area.now (is_master_lem s) s.requires.1.1.0 s.requires.1.0 a.part.now)
 
-pub new-master-spec : {M : Type 1} → statement M
-new-master-spec =
+pub new_master_spec : {M : Type 1} → statement M
+new_master_spec =
     tie.close
     (tie.spec
     (λ c. search rules)

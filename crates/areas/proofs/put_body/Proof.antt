@@ -16,19 +16,19 @@ use Rattle.areas.proofs.put_body.Tie as tie
 within : (s : tie.Start) → place_of s.args.e s.args.r.0 + s.args.e.size ≤ length s.args.base.now
 within s = place_inside s.args.r.0 s.requires.1.0 s.requires.0
 
-add-end : tie.Need-overflow-add-end
-add-end c = omega (arith, within c.before.before.before.before.before, c.before.place_of.ensures)
+add-end : tie.Need-overflow_add-end
+add-end c = omega (arith, within c.before.before.before.before.before, c.before.place_of-at.ensures)
 
-part-part-end : tie.Need-slice-bounds-part-end
-part-part-end c = omega (arith, within c.before.before.before.before.before, c.before.place_of.ensures)
+part-part-end : tie.Need-slice_bounds-part-end
+part-part-end c = omega (arith, within c.before.before.before.before.before, c.before.place_of-at.ensures)
 
-copy-part-requires : tie.Need-copy-part-requires
+copy-part-requires : tie.Need-copy_part-requires
 copy-part-requires c κs =
     let p = c.before.before.before.before in
     let s = p.before.before.before.before in
     let a = s.args in
-    let l : length (run a.base.now p.place_of.result a.e.size) ≡ a.e.size = length_run a.base.now p.place_of.result a.e.size (omega (arith, within s, p.place_of.ensures)) in
-    (rw (add-sub_cancel_left p.place_of.result a.e.size, l) (omega (arith, s.requires.1.0.sized)), omega (arith, p.before.area-keys.ensures, s.requires.1.1.1))
+    let l : length (run a.base.now p.place_of-at.result a.e.size) ≡ a.e.size = length_run a.base.now p.place_of-at.result a.e.size (omega (arith, within s, p.place_of-at.ensures)) in
+    (rw (add-sub_cancel_left p.place_of-at.result a.e.size, l) (omega (arith, s.requires.1.0.sized)), omega (arith, p.before.area_keys-from.ensures, s.requires.1.1.1))
 
 returns : tie.Need-returns
 returns c =
@@ -37,11 +37,11 @@ returns c =
     let s = p.before.before.before.before in
     let a = s.args in
     let l : length (area_body a.e a.area.now) ≡ a.e.room = length_run a.area.now (area_keys a.e) a.e.room (omega (arith, s.requires.1.1.1)) in
-    rw (add-sub_cancel_left p.place_of.result a.e.size, k.copy-part.ensures, add-sub_cancel_left p.place_of.result a.e.size, p.place_of.ensures, p.before.area-keys.ensures)
+    rw (add-sub_cancel_left p.place_of-at.result a.e.size, k.copy_part.ensures, add-sub_cancel_left p.place_of-at.result a.e.size, p.place_of-at.ensures, p.before.area_keys-from.ensures)
     (splice-part (place_of a.e a.r.0) a.e.size a.base.now a.e.body (area_body a.e a.area.now) (omega (arith, l, s.requires.1.0.sized)))
 
-pub put-body-spec : {M : Type 1} → statement M
-put-body-spec =
+pub put_body_spec : {M : Type 1} → statement M
+put_body_spec =
     tie.close
     (tie.spec
     (λ c κs. search rules)

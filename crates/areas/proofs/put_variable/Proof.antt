@@ -22,18 +22,18 @@ within s = place_inside s.args.r.0 s.requires.1.0 s.requires.0
 is_variable : (s : tie.Start) → is_master s.args.e ≡ false
 is_variable s = ne_eqb s.args.e.kind 1 (λ k. omega (arith, s.requires.1.1.1.1))
 
-add-end : tie.Need-overflow-add-end
-add-end c = omega (arith, within c.before.before.before.before, c.before.place_of.ensures)
+add-end : tie.Need-overflow_add-end
+add-end c = omega (arith, within c.before.before.before.before, c.before.place_of-at.ensures)
 
-part-new-variable-end : tie.Need-slice-bounds-new-variable-end
-part-new-variable-end c = omega (arith, within c.before.before.before.before, c.before.place_of.ensures)
+part-new-variable-end : tie.Need-slice_bounds-new_variable-end
+part-new-variable-end c = omega (arith, within c.before.before.before.before, c.before.place_of-at.ensures)
 
-new-variable-requires : tie.Need-new-variable-requires
+new-variable-requires : tie.Need-new_variable-requires
 new-variable-requires c κs =
     let p = c.before.before in
     let s = p.before.before.before in
     let a = s.args in (
-      rw (add-sub_cancel_left p.place_of.result a.e.size) (length_run a.base.now p.place_of.result a.e.size (omega (arith, within s, p.place_of.ensures)) ∙ s.requires.1.0.sized),
+      rw (add-sub_cancel_left p.place_of-at.result a.e.size) (length_run a.base.now p.place_of-at.result a.e.size (omega (arith, within s, p.place_of-at.ensures)) ∙ s.requires.1.0.sized),
       (s.requires.1.1.1.0, (s.requires.1.1.0, is_variable s)),
     )
 
@@ -46,11 +46,11 @@ returns c =
     let ys = new_variable a.e a.links a.area.now in
     let l : length ys ≡ a.e.body + a.e.room = length-new_variable a.e a.links a.area.now s.requires.1.1.0 (is_variable s) s.requires.1.1.1.0 in
     let z : place_of a.e a.r.0 + 0 ≡ place_of a.e a.r.0 = omega arith in
-    rw (add-sub_cancel_left p.place_of.result a.e.size, n.new-variable.ensures, add-sub_cancel_left p.place_of.result a.e.size, p.place_of.ensures)
+    rw (add-sub_cancel_left p.place_of-at.result a.e.size, n.new_variable.ensures, add-sub_cancel_left p.place_of-at.result a.e.size, p.place_of-at.ensures)
     (rw z at (splice-part (place_of a.e a.r.0) a.e.size a.base.now 0 ys (omega (arith, l, s.requires.1.0.sized))))
 
-pub put-variable-spec : {M : Type 1} → statement M
-put-variable-spec =
+pub put_variable_spec : {M : Type 1} → statement M
+put_variable_spec =
     tie.close
     (tie.spec
     (λ c κs. search rules)

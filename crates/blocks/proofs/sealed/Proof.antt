@@ -8,17 +8,23 @@ use borrow.Author.Rules.{rules}
 use Rattle.blocks.proofs.sealed.Statement.{statement}
 use Rattle.blocks.proofs.sealed.Tie as tie
 
-long : (c : tie.After-block) → length c.block.result.now ≡ 512
-long c = ap length c.block.ensures ∙ length_run _ _ 512 c.before.before.requires
+long : (c : tie.After-block-part) → length c.block-part.result.now ≡ 512
+long c = ap length c.block-part.ensures ∙ length_run _ _ 512 c.before.before.requires
 
 word-requires : tie.Need-word-requires
 word-requires c κs = omega (arith, long c)
 
-check-of-requires : tie.Need-check-of-requires
+check-of-requires : tie.Need-check_of-requires
 check-of-requires c κs = long c.before
 
 returns : tie.Need-returns
-returns c = rw (c.before.word.ensures, c.check-of.ensures, c.before.before.block.ensures) (is_sealed-run _ _ _)
+returns c = rw (c.before.word.ensures, c.check_of.ensures, c.before.before.block-part.ensures) (is_sealed-run _ _ _)
 
-pub sealed-spec : {M : Type 1} → statement M
-sealed-spec = tie.close (tie.spec (λ c κs. search rules) word-requires check-of-requires returns)
+pub sealed_spec : {M : Type 1} → statement M
+sealed_spec =
+    tie.close
+    (tie.spec
+    (λ c κs. search rules)
+    word-requires
+    check-of-requires
+    returns)

@@ -11,7 +11,7 @@ use Rattle.schema.specs.PlaceLaws.{record_length}
 use Rattle.records.proofs.fields.key_is.Statement.{statement}
 use Rattle.records.proofs.fields.key_is.Tie as tie
 
-long : (c : tie.After-record-of) → length c.record_of.result.now ≡ c.before.before.args.e.size
+long : (c : tie.After-record_of) → length c.record_of.result.now ≡ c.before.before.args.e.size
 long c =
     let s = c.before.before in
     ap length c.record_of.ensures ∙ record_length s.args.base.now s.args.e s.args.r.0 s.requires.1.0 s.requires.0
@@ -25,5 +25,10 @@ returns c =
     let a = s.args in
     rw (c.at.ensures, c.before.record_of.ensures) (ap (same_bytes (key_of a.k)) (run_run a.base.now (place_of a.e a.r.0) a.e.size a.o a.k.len s.requires.1.1.1))
 
-pub key-is-spec : {M : Type 1} → statement M
-key-is-spec = tie.close (tie.spec (λ c κs. search rules) at-requires returns)
+pub key_is_spec : {M : Type 1} → statement M
+key_is_spec =
+    tie.close
+    (tie.spec
+    (λ c κs. search rules)
+    at-requires
+    returns)

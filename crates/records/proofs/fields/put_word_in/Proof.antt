@@ -13,11 +13,11 @@ use Rattle.records.proofs.fields.put_word_in.Tie as tie
 within : (s : tie.Start) → place_of s.args.e s.args.r.0 + s.args.e.size ≤ length s.args.base.now
 within s = place_inside s.args.r.0 s.requires.1.0 s.requires.0
 
-add-end : tie.Need-overflow-add-end
-add-end c = omega (arith, within c.before.before.before, c.before.place_of.ensures)
+add-end : tie.Need-overflow_add-end
+add-end c = omega (arith, within c.before.before.before, c.before.place_of-at.ensures)
 
-part-put-word-end : tie.Need-slice-bounds-put-word-end
-part-put-word-end c = omega (arith, within c.before.before.before, c.before.place_of.ensures)
+part-put-word-end : tie.Need-slice_bounds-put_word-end
+part-put-word-end c = omega (arith, within c.before.before.before, c.before.place_of-at.ensures)
 
 returns : tie.Need-returns
 returns c =
@@ -25,11 +25,11 @@ returns c =
     let d = p.before.before.before in
     let s = d.before.before in
     let a = s.args in
-    rw (add-sub_cancel_left d.place_of.result a.e.size, p.put_word.ensures, add-sub_cancel_left d.place_of.result a.e.size, d.place_of.ensures)
+    rw (add-sub_cancel_left d.place_of-at.result a.e.size, p.put_word.ensures, add-sub_cancel_left d.place_of-at.result a.e.size, d.place_of-at.ensures)
     (set_word-part (place_of a.e a.r.0) a.e.size a.base.now a.o a.v s.requires.1.1)
 
-pub put-word-in-spec : {M : Type 1} → statement M
-put-word-in-spec =
+pub put_word_in_spec : {M : Type 1} → statement M
+put_word_in_spec =
     tie.close
     (tie.spec
     (λ c κs. search rules)

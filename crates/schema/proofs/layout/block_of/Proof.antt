@@ -10,7 +10,7 @@ use Rattle.schema.proofs.layout.block_of.Tie as tie
 within : (s : tie.Start) → place_of s.args.e s.args.r.0 + s.args.e.size ≤ 2097152
 within s = place_inside s.args.r.0 s.requires.1 s.requires.0
 
-add-t6 : tie.Need-overflow-add-t6
+add-t6 : tie.Need-overflow_add-result
 unfolding place_of block_of
 add-t6 c = omega (arith, within c.before.before.before)
 
@@ -18,5 +18,12 @@ returns : tie.Need-returns
 unfolding block_of
 returns c = search rules
 
-pub block-of-spec : {M : Type 1} → statement M
-block-of-spec = tie.close (tie.spec (λ c. search rules) (λ c. search rules) (λ c. search rules) add-t6 returns)
+pub block_of_spec : {M : Type 1} → statement M
+block_of_spec =
+    tie.close
+    (tie.spec
+    (λ c. search rules)
+    (λ c. search rules)
+    (λ c. search rules)
+    add-t6
+    returns)

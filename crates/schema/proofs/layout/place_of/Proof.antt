@@ -10,24 +10,24 @@ use Rattle.schema.proofs.layout.place_of.Tie as tie
 within : (s : tie.Start) → place_of s.args.e s.args.r.0 + s.args.e.size ≤ 2097152
 within s = place_inside s.args.r.0 s.requires.1 s.requires.0
 
-mul-before : tie.Need-overflow-mul-before
+mul-before : tie.Need-overflow_mul-before
 unfolding place_of
 mul-before c = omega (arith, within c.before.before.before)
 
-cast-result : tie.Need-overflow-cast-result
+cast-result : tie.Need-overflow_cast-result
 unfolding place_of
 cast-result c = omega (arith, within c.before.before.before.before.before)
 
-add-result : tie.Need-overflow-add-result
+add-result : tie.Need-overflow_add-result
 unfolding place_of
-add-result c = omega (arith, within c.before.before.before.before.before, c.place_of.ensures, c.before.Block-of.ensures)
+add-result c = omega (arith, within c.before.before.before.before.before, c.place_of.ensures, c.before.block_of.ensures)
 
 returns : tie.Need-returns
 unfolding place_of
 returns c = search rules
 
-pub place-of-spec : {M : Type 1} → statement M
-place-of-spec =
+pub place_of_spec : {M : Type 1} → statement M
+place_of_spec =
     tie.close
     (tie.spec
     (λ c. search rules)

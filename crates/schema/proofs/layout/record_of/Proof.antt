@@ -12,17 +12,17 @@ use Rattle.schema.proofs.layout.record_of.Tie as tie
 within : (s : tie.Start) → place_of s.args.e s.args.r.0 + s.args.e.size ≤ length s.args.base.now
 within s = place_inside s.args.r.0 s.requires.1 s.requires.0
 
-add-end : tie.Need-overflow-add-end
-add-end c = omega (arith, within c.before.before.before, c.before.place_of.ensures)
+add-end : tie.Need-overflow_add-end
+add-end c = omega (arith, within c.before.before.before, c.before.place_of-at.ensures)
 
-part-result-end : tie.Need-slice-bounds-result-end
-part-result-end c = omega (arith, within c.before.before.before, c.before.place_of.ensures)
+part-result-end : tie.Need-slice_bounds-result-end
+part-result-end c = omega (arith, within c.before.before.before, c.before.place_of-at.ensures)
 
 returns : tie.Need-returns
-returns c = cc (add-sub_cancel_left c.before.before.place_of.result c.before.before.before.before.args.e.size)
+returns c = cc (add-sub_cancel_left c.before.before.place_of-at.result c.before.before.before.before.args.e.size)
 
-pub record-of-spec : {M : Type 1} → statement M
-record-of-spec =
+pub record_of_spec : {M : Type 1} → statement M
+record_of_spec =
     tie.close
     (tie.spec
     (λ c κs. search rules)

@@ -1,0 +1,12 @@
+-- `octets::copy_in` meets its contract. The invariant: the first i bytes of src are stored.
+use Rattle.std.proofs.Common.{◌≡◌, ◌-◌, ◌≤◌, length, take, refl, ◌∙◌, arith, length-set, rules}
+use lib.Seq.{take-length}
+use Rattle.octets.specs.Octets.{splice}
+use Rattle.octets.specs.SpliceLaws.{splice-turn}
+use Rattle.octets.proofs.copy_in.Given as goal
+
+abbrev pub invariant-loop-i : goal.invariant-loop-i
+invariant-loop-i l = (l.i ≤ length l.src) × (l.dst ≡ splice l.initial.dst l.at (take l.i l.src)) × (length l.dst ≡ length l.initial.dst)
+
+abbrev pub decreases-loop-i : goal.decreases-loop-i
+decreases-loop-i l = length l.src - l.i

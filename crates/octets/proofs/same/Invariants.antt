@@ -1,0 +1,11 @@
+-- `octets::same` meets its contract. The invariant: what is left decides.
+use Rattle.std.proofs.Common.{◌≡◌, ◌-◌, ◌≤◌, length, drop, sym, ◌∙◌, arith, rules}
+use Rattle.octets.specs.Octets.{same_bytes}
+use Rattle.octets.specs.RunLaws.{same_turn, same_fails, same_lengths, same_end}
+use Rattle.octets.proofs.same.Given as goal
+
+abbrev pub invariant-loop-i : goal.invariant-loop-i
+invariant-loop-i l = (l.i ≤ length l.a) × (length l.a ≡ length l.b) × (same_bytes (drop l.i l.a) (drop l.i l.b) ≡ same_bytes l.a l.b)
+
+abbrev pub decreases-loop-i : goal.decreases-loop-i
+decreases-loop-i l = length l.a - l.i

@@ -1,0 +1,8 @@
+-- `rules::rest` meets its contract: the run of zeros.
+use Rattle.schema.specs.Rules.{rest_rule}
+use borrow.Author.Rules.{rules}
+use Rattle.rules.proofs.rest.Goals as goal
+
+pub returns : goal.returns
+unfolding rest_rule
+returns c = cc
