@@ -1,12 +1,16 @@
 // Document 01's program: it formats the small store, makes the call of each line of standard input, and prints the answers. What a line
 // does and prints is proved in the crate `console`; here bytes are read, cut into lines, and written. The contracts say where the program
-// stands after the bytes that it has taken: the line's number, what is kept of the line, the data base. What is written is not stated: the
-// kit has no statement on it. Nor does `libc::read` say which bytes it brought.
+// stands after the bytes that it has taken: the line's number, what is kept of the line, the data base. What is written is not stated: std
+// has no statement on what standard output takes. Nor does it say which bytes a read of standard input brought. A read or a write that
+// fails ends the program with its error, and no other error comes: the contracts say where the program stands then.
 #![tactic(auto)]
 
-ghost use Rattle.std.specs.Prelude.{◌≡◌, ℕ, ◌≤◌, not, List, length, ◌==◌};
+ghost use Rattle.std.specs.Prelude.{◌≡◌, ◌≢◌, ℕ, ◌+◌, ◌<◌, ◌≤◌, not, List, length, take, slice_index, ◌==◌, IfOk, OnErr};
 ghost use Rattle.console.specs.Console.{Replied, responded};
 ghost use Rattle.console.specs.Session.{Stand, begun, byte_taken, bytes_taken, last_reply, StandsAt, Leads};
+
+use std::io;
+use std::io::{Read, Write};
 
 // The line that is being read: its number, and how many of its bytes are kept.
 #[derive(Clone, Copy)]
@@ -15,76 +19,96 @@ struct Progress {
     len: usize,
 }
 
-// Writes what is printed.
-fn print(out: &[u8], n: usize)
+// Writes what is printed. Of a write that fails, some may be written.
+fn print(to: &mut impl Write, out: &[u8], n: usize) -> io::Result<()>
     requires { n ≤ length out.now }
 {
-    io::write_all(1, &out[..n]);
+    to.write_all(&out[..n])
 }
 
-// Answers a line, by way of a buffer.
-fn answer(number: u64, line: &[u8], schema: &[u8], base: &mut [u8], out: &mut [u8; 64])
+// Answers a line, by way of a buffer. Where the write fails, the data base is as the line leaves it all the same.
+fn answer(
+    to: &mut impl Write,
+    number: u64,
+    line: &[u8],
+    schema: &[u8],
+    base: &mut [u8],
+    out: &mut [u8; 64],
+) -> io::Result<()>
     ensures { (n : ℕ) × Replied n out.old out.new base.new (responded number line.now schema.now base.old) }
 {
     let n = console::respond(number, line, schema, base, out);
-    print(out, n);
+    print(to, out, n)
 }
 
-fn end_line(number: u64, line: &[u8], schema: &[u8], base: &mut [u8])
+fn end_line(
+    to: &mut impl Write,
+    number: u64,
+    line: &[u8],
+    schema: &[u8],
+    base: &mut [u8],
+) -> io::Result<()>
     ensures { base.new ≡ (responded number line.now schema.now base.old).base }
 {
     let mut out = [0u8; 64];
-    answer(number, line, schema, base, &mut out);
+    answer(to, number, line, schema, base, &mut out)
 }
 
 // Takes one byte: a newline ends the line, any other byte is kept.
 fn take_byte(
+    to: &mut impl Write,
     progress: Progress,
     byte: u8,
     line: &mut [u8],
     schema: &[u8],
     base: &mut [u8],
-) -> Progress
+) -> io::Result<Progress>
     requires { (length line.old ≡ 129) × (progress.len ≤ 129) }
-    ensures len_bound { result.len ≤ 129 }
-    ensures leads { Leads (λ s. byte_taken schema.now s byte) progress.number progress.len line.old base.old result.number result.len line.new base.new }
+    ensures len_bound { IfOk result (λ r. r.len ≤ 129) }
+    ensures leads { IfOk result (λ r. Leads (λ s. byte_taken schema.now s byte) progress.number progress.len line.old base.old r.number r.len line.new base.new) }
+    // A write fails at a newline alone, and the byte is taken all the same.
+    ensures at_newline { OnErr result (byte ≡ 10) }
+    ensures led { OnErr result ((next : ℕ) × (more : ℕ) × Leads (λ s. byte_taken schema.now s byte) progress.number progress.len line.old base.old next more line.new base.new) }
 {
     let number = progress.number;
     let len = progress.len;
     if byte == 10 {
-        end_line(number, &line[..len], schema, base);
-        let next = std::num::wrapping_add_u64(number, 1);
-        return Progress {
+        end_line(to, number, &line[..len], schema, base)?;
+        let next = number.wrapping_add(1);
+        return Ok(Progress {
             number: next,
             len: 0,
-        };
+        });
     }
     let more = console::keep(line, len, byte);
-    Progress {
+    Ok(Progress {
         number: number,
         len: more,
-    }
+    })
 }
 
 // Takes the bytes of one read.
 fn take_bytes(
+    to: &mut impl Write,
     progress: Progress,
     bytes: &[u8],
     line: &mut [u8],
     schema: &[u8],
     base: &mut [u8],
-) -> Progress
+) -> io::Result<Progress>
     requires { (length line.old ≡ 129) × (progress.len ≤ 129) }
-    ensures len_bound { result.len ≤ 129 }
-    ensures leads { Leads (λ s. bytes_taken schema.now s bytes.now) progress.number progress.len line.old base.old result.number result.len line.new base.new }
+    ensures len_bound { IfOk result (λ r. r.len ≤ 129) }
+    ensures leads { IfOk result (λ r. Leads (λ s. bytes_taken schema.now s bytes.now) progress.number progress.len line.old base.old r.number r.len line.new base.new) }
+    // A write that fails is that of a newline among the bytes: those up to it are taken.
+    ensures led { OnErr result ((i : ℕ) × (i < length bytes.now) × (slice_index bytes.now i ≡ 10) × (next : ℕ) × (more : ℕ) × Leads (λ s. bytes_taken schema.now s (take (i + 1) bytes.now)) progress.number progress.len line.old base.old next more line.new base.new) }
 {
     let mut at = progress;
     let mut i = 0;
     while i < bytes.len() {
-        at = take_byte(at, bytes[i], line, schema, base);
+        at = take_byte(to, at, bytes[i], line, schema, base)?;
         i += 1;
     }
-    at
+    Ok(at)
 }
 
 // What one read brought.
@@ -94,60 +118,84 @@ struct Turn {
     more: bool,
 }
 
-// Reads once, and takes the bytes that it has read, whichever they are.
-fn read_once(progress: Progress, line: &mut [u8], schema: &[u8], base: &mut [u8]) -> Turn
+// Reads once, and takes the bytes that it has read, whichever they are. A read that fails brings none.
+fn read_once(
+    from: &mut impl Read,
+    to: &mut impl Write,
+    progress: Progress,
+    line: &mut [u8],
+    schema: &[u8],
+    base: &mut [u8],
+) -> io::Result<Turn>
     requires { (length line.old ≡ 129) × (progress.len ≤ 129) }
-    ensures len_bound { result.progress.len ≤ 129 }
-    ensures by_index { (bytes : List ℕ) × (result.more ≡ not (length bytes == 0)) × Leads (λ s. bytes_taken schema.now s bytes) progress.number progress.len line.old base.old result.progress.number result.progress.len line.new base.new }
+    ensures len_bound { IfOk result (λ r. r.progress.len ≤ 129) }
+    ensures leads { IfOk result (λ r. (bytes : List ℕ) × (r.more ≡ not (length bytes == 0)) × Leads (λ s. bytes_taken schema.now s bytes) progress.number progress.len line.old base.old r.progress.number r.progress.len line.new base.new) }
+    ensures led { OnErr result ((bytes : List ℕ) × (next : ℕ) × (more : ℕ) × Leads (λ s. bytes_taken schema.now s bytes) progress.number progress.len line.old base.old next more line.new base.new) }
 {
-    let mut buffer = io::buffer();
-    let got = libc::read(0, &mut buffer);
-    let n = io::count(got, &buffer);
+    let mut buffer = [0u8; 4096];
+    let n = from.read(&mut buffer)?;
     let more = n != 0;
-    let next = take_bytes(progress, &buffer[..n], line, schema, base);
-    Turn {
+    let next = take_bytes(to, progress, &buffer[..n], line, schema, base)?;
+    Ok(Turn {
         progress: next,
         more: more,
-    }
+    })
 }
 
 // Reads to the end of the input. A proved loop has to end, and nothing says that the input does: so it counts its turns down, from a
 // number that no run uses up.
-fn read_all(line: &mut [u8], schema: &[u8], base: &mut [u8]) -> Progress
+fn read_all(
+    from: &mut impl Read,
+    to: &mut impl Write,
+    line: &mut [u8],
+    schema: &[u8],
+    base: &mut [u8],
+) -> io::Result<Progress>
     requires { length line.old ≡ 129 }
-    ensures len_bound { result.len ≤ 129 }
-    ensures by_index { (bytes : List ℕ) × StandsAt (bytes_taken schema.now (begun base.old) bytes) result.number result.len line.new base.new }
+    ensures len_bound { IfOk result (λ r. r.len ≤ 129) }
+    ensures stands { IfOk result (λ r. (bytes : List ℕ) × StandsAt (bytes_taken schema.now (begun base.old) bytes) r.number r.len line.new base.new) }
+    ensures stood { OnErr result ((bytes : List ℕ) × (number : ℕ) × (len : ℕ) × StandsAt (bytes_taken schema.now (begun base.old) bytes) number len line.new base.new) }
 {
     let mut progress = Progress { number: 1, len: 0 };
     let mut turns = u64::MAX;
     while 0 < turns {
-        let t = read_once(progress, line, schema, base);
+        let t = read_once(from, to, progress, line, schema, base)?;
         progress = t.progress;
         if !t.more {
-            return progress;
+            return Ok(progress);
         }
         turns -= 1;
     }
-    progress
+    Ok(progress)
 }
 
 // A last line without newline counts; nothing after the last newline is no line.
-fn last_line(progress: Progress, line: &[u8], schema: &[u8], base: &mut [u8])
+fn last_line(
+    to: &mut impl Write,
+    progress: Progress,
+    line: &[u8],
+    schema: &[u8],
+    base: &mut [u8],
+) -> io::Result<()>
     requires { (length line.now ≡ 129) × (progress.len ≤ 129) }
-    ensures { (s : Stand) → StandsAt s progress.number progress.len line.now base.old → base.new ≡ (last_reply schema.now s).base }
+    ensures last { (s : Stand) → StandsAt s progress.number progress.len line.now base.old → base.new ≡ (last_reply schema.now s).base }
+    ensures at_line { OnErr result (progress.len ≢ 0) }
 {
     let number = progress.number;
     let len = progress.len;
     if len != 0 {
-        end_line(number, &line[..len], schema, base);
+        return end_line(to, number, &line[..len], schema, base);
     }
+    Ok(())
 }
 
-fn main() {
+fn main(rt: HostRuntime) -> io::Result<()> {
+    let mut from = rt.stdin();
+    let mut to = rt.stdout();
     let schema = console::small::schema();
     let mut base = [0u8; 1024];
     console::small::format(&schema, &mut base);
     let mut line = [0u8; 129];
-    let progress = read_all(&mut line, &schema, &mut base);
-    last_line(progress, &line, &schema, &mut base);
+    let progress = read_all(&mut from, &mut to, &mut line, &schema, &mut base)?;
+    last_line(&mut to, progress, &line, &schema, &mut base)
 }

@@ -1,0 +1,44 @@
+use Rattle.std.proofs.Common.{[], ◌++◌, ℕ, List, refl, arith, rules}
+use Rattle.std.proofs.lemmas.Result.{err_from_is_err_and}
+use Rattle.console.specs.Session.{begun, bytes_taken, StandsAt, Leads}
+use Rattle.console.specs.SessionLaws.{nothing-kept, taken_append}
+use Rattle.yarugota.proofs.read_all.Goals as goal
+
+-- the bytes of one read, behind those before
+read-more :
+    (schema base before bytes : List ℕ) {number len next more : ℕ} {line kept was after : List ℕ}
+    → StandsAt (bytes_taken schema (begun base) before) number len line was
+    → Leads (λ s. bytes_taken schema s bytes) number len line was next more kept after
+    → StandsAt (bytes_taken schema (begun base) (before ++ bytes)) next more kept after
+read-more schema base before bytes at leads = rw (taken_append schema (begun base) before bytes) (leads (bytes_taken schema (begun base) before) at)
+
+pub loop-turns-init : goal.loop-turns-init
+unfolding bytes_taken
+loop-turns-init g c = record {
+  kept = omega arith;
+  line = c.requires;
+  stands = ([], record { number = refl; line = nothing-kept _; base = refl });
+}
+
+pub returns-in_err-t-clause-stood : goal.returns-in_err-t-clause-stood
+returns-in_err-t-clause-stood g c =
+    let p = err_from_is_err_and c.from_residual.result c.from_residual.ensures.1 in
+    let i = c.loop-turns.invariant.stands in
+    let w = c.in_err-t.ensures.led in
+    rw p.1 (i.0 ++ w.0, w.1, w.2, read-more c.args.schema.now c.args.base.now i.0 w.0 i.1 w.3)
+
+pub returns-then-not-t-clause-stands : goal.returns-then-not-t-clause-stands
+returns-then-not-t-clause-stands g c =
+    let i = c.loop-turns.invariant.stands in
+    let w = c.in_ok-t.ensures.leads in
+    (i.0 ++ w.0, read-more c.args.schema.now c.args.base.now i.0 w.0 i.1 w.2)
+
+pub loop-turns-preserved : goal.loop-turns-preserved
+loop-turns-preserved g c =
+    let i = c.loop-turns.invariant.stands in
+    let w = c.in_ok-t.ensures.leads in
+    record {
+      kept = c.in_ok-t.ensures.len_bound;
+      line = search rules;
+      stands = (i.0 ++ w.0, read-more c.args.schema.now c.args.base.now i.0 w.0 i.1 w.2);
+    }

@@ -1,0 +1,35 @@
+use Rattle.std.proofs.Common.{arith, take_all, rules}
+use Rattle.std.proofs.lemmas.Result.{err_from_is_err_and}
+use Rattle.console.specs.Session.{bytes_taken}
+use Rattle.console.specs.SessionLaws.{taken-one}
+use Rattle.yarugota.proofs.take_bytes.Goals as goal
+
+pub loop-i-init : goal.loop-i-init
+unfolding bytes_taken
+loop-i-init g c = record { in_range = omega arith; kept = c.requires.1; line = c.requires.0; leads = λ s h. h }
+
+pub returns-in_err-at-clause-led : goal.returns-in_err-at-clause-led
+returns-in_err-at-clause-led g c =
+    let p = err_from_is_err_and c.from_residual.result c.from_residual.ensures.1 in
+    let w = c.in_err-at.ensures.led in
+    rw p.1 (
+      c.loop-i.i,
+      omega arith,
+      search rules,
+      w.0,
+      w.1,
+      λ s h.
+          rw (taken-one c.args.schema.now s c.args.bytes.now c.loop-i.i (omega arith)) (w.2 _ (c.loop-i.invariant.leads s h)),
+    )
+
+pub loop-i-preserved : goal.loop-i-preserved
+loop-i-preserved g c = record {
+  in_range = omega arith;
+  kept = c.in_ok-at.ensures.len_bound;
+  line = search rules;
+  leads = λ s h.
+      rw (taken-one c.args.schema.now s c.args.bytes.now c.loop-i.i (omega arith)) (c.in_ok-at.ensures.leads _ (c.loop-i.invariant.leads s h));
+}
+
+pub returns-clause-leads : goal.returns-clause-leads
+returns-clause-leads g c = λ s h. rw (take_all c.loop-i.i c.args.bytes.now (omega arith)) at (c.loop-i.invariant.leads s h)
