@@ -1,0 +1,19 @@
+-- `masters::walk::seek_from` meets its contract. The invariant: from where the walk stands there is left to find what the whole search
+-- finds, and the chain ends where it ended from the home. The measure: what may still be visited. Assumes nothing.
+use Prim.Native.Nat.{◌-◌, ◌≤◌}
+use mathlib.Core.Path.{◌≡◌, refl, sym, ap, ◌∙◌}
+use native.Mathlib.Omega.{arith}
+use native.Mathlib.Nat.{sub-zero}
+use borrow.Author.Rules.{rules}
+use Rattle.terms.specs.Terms.{key_of}
+use Rattle.masters.specs.Find.{seek, tail_from}
+use Rattle.masters.specs.Walks.{resolve}
+use Rattle.masters.specs.WalkLaws.{Onward, seek_on, tail_on, walk_turn, walk_ends, walk_goes}
+use Rattle.masters.proofs.walk.seek_from.Given as goal
+
+abbrev pub invariant-loop-r : goal.invariant-loop-r
+invariant-loop-r l =
+    (l.w.visited ≤ l.e.records) × (seek_on l.base l.e (key_of l.k) l.w ≡ seek l.e.records l.base l.e (key_of l.k) l.h.0) × (tail_on l.base l.e l.w ≡ tail_from l.e.records l.base l.e l.h.0)
+
+abbrev pub decreases-loop-r : goal.decreases-loop-r
+decreases-loop-r l = l.e.records - l.w.visited
