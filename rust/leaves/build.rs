@@ -1,5 +1,5 @@
-//! Builds the driver that calls the C entries, as a program of its own: the
-//! proved library is for x86-64, and this machine may be another.
+//! Builds the driver that calls the C entries, as a program of its own for
+//! x86-64, as the proved library is.
 //!
 //! Where the library is missing there is no driver, and whoever starts it is
 //! told so: the tests of other packages need not wait.

@@ -1,6 +1,6 @@
 //! Links the proved library in where it is for this processor: on x86-64 the
-//! one that `rt staticlib store` writes, or any that
-//! `YARUGOTA_NATIVE_ARCHIVE` names, which must be there.
+//! one that `tools/archives` builds, or any that `YARUGOTA_NATIVE_ARCHIVE`
+//! names, which must be there.
 
 use std::env;
 use std::path::PathBuf;

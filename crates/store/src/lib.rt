@@ -114,9 +114,8 @@ fn one_word(status: u32, reference: u32) -> u64
     (status as u64) * 4294967296 + (reference as u64)
 }
 
-// The same call from C: the status in the upper half of the answer, the reference in the lower.
-#[unsafe(no_mangle)]
-pub extern "C" fn yarugota_call(
+// The same call as C makes it: the status in the upper half of the answer, the reference in the lower. `store_c` exports it.
+pub fn yarugota_call(
     op: &[u8; 5],
     set: &[u8; 4],
     reference: u32,

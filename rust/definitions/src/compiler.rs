@@ -20,6 +20,9 @@ struct Module {
     file: String,
 }
 
+/// Rooms that are the toolchain's.
+const LIBRARIES: [&str; 2] = ["std", "core"];
+
 /// What a name stands for, outside the variables of its clause.
 enum Meaning {
     Definition(Module, String),
@@ -123,24 +126,23 @@ impl Compiler<'_> {
     fn imported(&mut self, import: &Import) -> Result<Option<Meaning>, String> {
         let parts: Vec<&str> = import.module.iter().map(String::as_str).collect();
         let name = &import.original;
-        match room_of(parts[0]) {
-            None => Ok(native(name).map(Meaning::Native)),
-            Some(room) => match parts[1..] {
-                // An enumeration of the code, seen from the definitions.
-                ["specs", "declared", kind, "the-variants"] => {
-                    let constructor = format!("{room}/{kind}.{name}");
-                    Ok(Some(Meaning::Constructor(constructor)))
-                }
-                ["specs", file] => {
-                    let module = Module {
-                        room: room.to_string(),
-                        file: file.to_string(),
-                    };
-                    let source = self.source(&module)?;
-                    Ok(declared(&module, &source, name))
-                }
-                _ => Ok(None),
-            },
+        match parts[..] {
+            ["Rattle", room, ..] if LIBRARIES.contains(&room) => library(name),
+            // An enumeration of the code, seen from the definitions.
+            ["Rattle", room, "specs", "declared", kind, "TheVariants"] => {
+                let constructor = format!("{room}/{kind}.{name}");
+                Ok(Some(Meaning::Constructor(constructor)))
+            }
+            ["Rattle", room, "specs", file] => {
+                let module = Module {
+                    room: room.to_string(),
+                    file: file.to_string(),
+                };
+                let source = self.source(&module)?;
+                Ok(declared(&module, &source, name))
+            }
+            ["Rattle", ..] => Ok(None),
+            _ => library(name),
         }
     }
 
@@ -326,18 +328,16 @@ fn applied_name(syntax: &Syntax) -> Option<(&String, &[Syntax])> {
     }
 }
 
-/// `Rattle·octets` and, for a room's own files, `Rattle·octets·specs`.
-fn room_of(package: &str) -> Option<&str> {
-    let room = package.strip_prefix("Rattle·")?;
-    Some(room.strip_suffix("·specs").unwrap_or(room))
+fn library(name: &str) -> Result<Option<Meaning>, String> {
+    Ok(native(name).map(Meaning::Native))
 }
 
 /// The operators that a file uses, under the names it gives them.
 fn operators(source: &Source) -> HashMap<String, Fixity> {
-    let operators = source.imports.iter().filter_map(|(name, import)| {
-        let operator = name.strip_prefix('_')?.strip_suffix('_')?;
-        Some((operator.to_string(), fixity(&import.original)?))
-    });
+    let operators = source
+        .imports
+        .iter()
+        .filter_map(|(name, import)| Some((name.clone(), fixity(&import.original)?)));
     operators.collect()
 }
 

@@ -12,10 +12,8 @@ pub enum Token {
     Name(String),
     Number(u64),
     Text(String),
-    /// ` .field`, which projects from everything to its left.
+    /// `.field` right behind a name or a closing parenthesis.
     Field(String),
-    /// `x.field` without a blank, which projects from the name `x` only.
-    TightField(String),
     /// The dot behind the variables of a `λ`.
     Dot,
     Lambda,
@@ -95,8 +93,9 @@ fn token(characters: &[char], at: usize) -> Result<(Token, usize), String> {
     let after = &characters[at + 1..];
     match characters[at] {
         '.' => {
-            let tight = at > 0 && !ends_word(characters[at - 1]);
-            Ok(dot(after, tight))
+            let before = at.checked_sub(1).map(|at| characters[at]);
+            let behind_a_value = before.is_some_and(|c| c == ')' || !ends_word(c));
+            dot(after, behind_a_value)
         }
         '"' => quoted(after),
         first => match punctuation(first) {
@@ -106,16 +105,15 @@ fn token(characters: &[char], at: usize) -> Result<(Token, usize), String> {
     }
 }
 
-/// What a dot begins, `tight` where a name stands right before it.
-fn dot(after: &[char], tight: bool) -> (Token, usize) {
+/// What a dot begins. A field stands right behind its value.
+fn dot(after: &[char], behind_a_value: bool) -> Result<(Token, usize), String> {
     let name = word(after);
     let length = 1 + name.chars().count();
-    let token = match (name.is_empty(), tight) {
-        (true, _) => Token::Dot,
-        (false, true) => Token::TightField(name),
-        (false, false) => Token::Field(name),
-    };
-    (token, length)
+    match (name.is_empty(), behind_a_value) {
+        (true, _) => Ok((Token::Dot, length)),
+        (false, true) => Ok((Token::Field(name), length)),
+        (false, false) => Err(format!(".{name} stands behind no value")),
+    }
 }
 
 /// A text, behind its first quotation mark.
@@ -182,20 +180,27 @@ mod tests {
 
     #[test]
     fn a_field_is_told_from_the_dot_of_a_lambda() {
-        let read = tokens("(λ k. pathOf e k .len) -- x .y").unwrap();
+        let read = tokens("(λ k. (path_of e k).len) -- x .y").unwrap();
         let field = Token::Field("len".to_string());
         let expected = [
             Token::Open,
             Token::Lambda,
             name("k"),
             Token::Dot,
-            name("pathOf"),
+            Token::Open,
+            name("path_of"),
             name("e"),
             name("k"),
+            Token::Close,
             field,
             Token::Close,
         ];
         assert_eq!(read, expected);
+    }
+
+    #[test]
+    fn a_field_behind_a_blank_is_none() {
+        assert!(tokens("path_of e k .len").is_err());
     }
 
     #[test]

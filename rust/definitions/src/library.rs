@@ -3,10 +3,10 @@
 //!
 //! They are lawful shortcuts. The libraries' own text defines each of them
 //! clause by clause, and they answer the same: subtraction stops at 0, x / 0
-//! is 0, x % 0 is x, an element past the end of a list is the default, and a
-//! `set` past the end changes nothing.
+//! is 0, x % 0 is x, an element past the end of a list is the default, or 0
+//! for `slice_index`, and a `set` past the end changes nothing.
 
-use crate::parser::{Fixity, Side};
+use crate::parser::{Fixity, Side, CHOICE};
 
 #[derive(Clone, Copy, Debug, PartialEq)]
 pub enum Native {
@@ -33,6 +33,7 @@ pub enum Native {
     Append,
     Length,
     Element,
+    ElementOrZero,
     Take,
     Drop,
     Set,
@@ -48,7 +49,7 @@ impl Native {
             Suc | Not | Length | Code => 1,
             Add | Subtract | Multiply | Divide | Remainder | Minimum => 2,
             Equal | AtMost | Below | And | Or | Xor => 2,
-            Cons | Append | Take | Drop | Replicate => 2,
+            Cons | Append | Take | Drop | Replicate | ElementOrZero => 2,
             Choose | Element | Set => 3,
         }
     }
@@ -69,30 +70,31 @@ pub fn native(name: &str) -> Option<Native> {
     Some(match name {
         "zero" => Zero,
         "suc" => Suc,
-        "_+_" => Add,
-        "_-_" => Subtract,
-        "_*_" => Multiply,
-        "_/_" => Divide,
-        "_%_" => Remainder,
+        "◌+◌" => Add,
+        "◌-◌" => Subtract,
+        "◌*◌" => Multiply,
+        "◌/◌" => Divide,
+        "◌%◌" => Remainder,
         "min" => Minimum,
-        "eqb" => Equal,
-        "leb" => AtMost,
-        "ltb" => Below,
+        "eqb" | "nat_eq" | "◌==◌" => Equal,
+        "leb" | "nat_le" => AtMost,
+        "ltb" | "nat_lt" => Below,
         "true" => True,
         "false" => False,
-        "cond" => Choose,
+        "cond" | CHOICE => Choose,
         "not" => Not,
-        "_&&_" => And,
-        "_||_" => Or,
+        "◌&&◌" => And,
+        "◌||◌" => Or,
         "xor" => Xor,
         "[]" => Empty,
-        "_∷_" => Cons,
-        "_++_" => Append,
+        "◌∷◌" => Cons,
+        "◌++◌" => Append,
         "length" => Length,
-        "getD" => Element,
+        "get_or" | "slice_index_or" => Element,
+        "slice_index" => ElementOrZero,
         "take" => Take,
         "drop" => Drop,
-        "set" => Set,
+        "set" | "slice_set" => Set,
         "replicate" => Replicate,
         "code" => Code,
         _ => return None,
@@ -102,11 +104,13 @@ pub fn native(name: &str) -> Option<Native> {
 /// The fixity that the library gives an operator.
 pub fn fixity(operator: &str) -> Option<Fixity> {
     let (strength, side) = match operator {
-        "_*_" | "_/_" | "_%_" => (70, Side::Left),
-        "_∷_" => (67, Side::Right),
-        "_+_" | "_-_" | "_++_" => (65, Side::Left),
-        "_&&_" => (35, Side::Left),
-        "_||_" => (30, Side::Left),
+        "◌*◌" | "◌/◌" | "◌%◌" => (70, Side::Left),
+        "◌∷◌" => (67, Side::Right),
+        "◌+◌" | "◌-◌" | "◌++◌" => (65, Side::Left),
+        "◌==◌" => (40, Side::Neither),
+        "◌&&◌" => (35, Side::Left),
+        "◌||◌" => (30, Side::Left),
+        CHOICE => (5, Side::Neither),
         _ => return None,
     };
     Some(Fixity { strength, side })

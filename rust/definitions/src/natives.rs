@@ -35,6 +35,10 @@ impl<'p> Evaluator<'p> {
             Native::Append => Value::List(self.append(list(0)?, &arguments[1])?),
             Native::Length => Value::Number(self.length(list(0)?)?),
             Native::Element => return self.element(list(0)?, number(1)?, &arguments[2]),
+            Native::ElementOrZero => {
+                let none = Value::Number(0).into();
+                return self.element(list(0)?, number(1)?, &none);
+            }
             Native::Take => Value::List(self.take(number(0)?, list(1)?)?),
             Native::Drop => Value::List(self.drop(number(0)?, list(1)?)?),
             Native::Set => Value::List(self.set(list(0)?, number(1)?, &arguments[2])?),

@@ -27,9 +27,15 @@ pub struct Fixity {
 pub enum Side {
     Left,
     Right,
+    /// Next to one of its own strength it needs parentheses.
+    Neither,
 }
 
-/// The two sides of a clause.
+/// The one operator whose parts stand around its operands.
+pub const CHOICE: &str = "if◌then◌else◌";
+
+/// The two sides of a clause. `fixity` knows the operators in scope by their
+/// whole names, as `◌+◌`.
 pub fn clause(
     tokens: &[Token],
     fixity: &dyn Fn(&str) -> Option<Fixity>,
@@ -80,69 +86,88 @@ impl Parser<'_> {
     /// The operator that comes next, with its fixity.
     fn operator(&self) -> Option<(String, Fixity)> {
         match self.peek()? {
-            Token::Name(name) => Some((name.clone(), (self.fixity)(name)?)),
+            Token::Name(name) => {
+                let operator = format!("◌{name}◌");
+                let fixity = (self.fixity)(&operator)?;
+                Some((operator, fixity))
+            }
             _ => None,
         }
     }
 
+    /// Whether `if`, `then` or `else` comes next, where that is no plain name.
+    fn part_of_choice(&self) -> bool {
+        let parts = ["if", "then", "else"];
+        let is_part = |token: &Token| parts.iter().any(|part| token.is_name(part));
+        self.peek().is_some_and(is_part) && (self.fixity)(CHOICE).is_some()
+    }
+
     /// Operands joined by operators of at least the given strength.
     fn expression(&mut self, least: u32) -> Result<Syntax, String> {
+        if self.part_of_choice() {
+            return self.choice();
+        }
         let mut left = self.operand()?;
-        while let Some((name, Fixity { strength, side })) = self.operator() {
+        while let Some((operator, Fixity { strength, side })) = self.operator() {
             if strength < least {
                 break;
             }
             self.at += 1;
             let right = self.expression(match side {
-                Side::Left => strength + 1,
+                Side::Left | Side::Neither => strength + 1,
                 Side::Right => strength,
             })?;
-            let operator = Syntax::Name(format!("_{name}_"));
-            left = Syntax::Apply(Box::new(operator), vec![left, right]);
             // Two operators of one strength that lean to different sides have
             // no meaning next to each other.
             if let Some((other, next)) = self.operator() {
-                if next.strength == strength && next.side != side {
-                    return Err(format!("{name} and {other} need parentheses"));
+                let alike = next.side == side && side != Side::Neither;
+                if next.strength == strength && !alike {
+                    return Err(format!("{operator} and {other} need parentheses"));
                 }
             }
+            left = Syntax::Apply(Box::new(Syntax::Name(operator)), vec![left, right]);
         }
         Ok(left)
     }
 
-    /// An application with its projections: `f x .a` projects from `f x`.
+    /// `if a then b else c`, the last part as far to the right as it can be.
+    fn choice(&mut self) -> Result<Syntax, String> {
+        let mut operands = Vec::new();
+        for part in ["if", "then", "else"] {
+            self.expect(Token::Name(part.to_string()))?;
+            operands.push(self.expression(0)?);
+        }
+        let operator = Syntax::Name(CHOICE.to_string());
+        Ok(Syntax::Apply(Box::new(operator), operands))
+    }
+
     fn operand(&mut self) -> Result<Syntax, String> {
-        let mut head = self.atom()?.ok_or_else(|| match self.peek() {
+        let head = self.atom()?.ok_or_else(|| match self.peek() {
             Some(token) => format!("an expression expected, {token:?} found"),
             None => "an expression expected, nothing found".to_string(),
         })?;
         let mut arguments = Vec::new();
-        loop {
-            if let Some(Token::Field(field)) = self.peek() {
-                let field = field.clone();
-                self.at += 1;
-                head = Syntax::Project(Box::new(apply(head, arguments)), field);
-                arguments = Vec::new();
-            } else if let Some(argument) = self.atom()? {
-                arguments.push(argument);
-            } else {
-                return Ok(apply(head, arguments));
-            }
+        while let Some(argument) = self.atom()? {
+            arguments.push(argument);
         }
+        Ok(apply(head, arguments))
     }
 
     /// What stands as one argument, if one stands here.
     fn atom(&mut self) -> Result<Option<Syntax>, String> {
-        if self.operator().is_some() {
+        if self.operator().is_some() || self.part_of_choice() {
             return Ok(None);
         }
         let before = self.at;
         let atom = match self.next() {
             Some(Token::Name(name)) if name == "record" => self.record()?,
-            Some(Token::Name(name)) => self.projected(name),
+            Some(Token::Name(name)) => self.projected(Syntax::Name(name)),
             Some(Token::Number(number)) => Syntax::Number(number),
             Some(Token::Text(text)) => Syntax::Text(text),
-            Some(Token::Open) => self.closed()?,
+            Some(Token::Open) => {
+                let inside = self.closed()?;
+                self.projected(inside)
+            }
             Some(Token::Lambda) => self.lambda()?,
             _ => {
                 self.at = before;
@@ -152,10 +177,9 @@ impl Parser<'_> {
         Ok(Some(atom))
     }
 
-    /// A name with the fields that stand right behind it.
-    fn projected(&mut self, name: String) -> Syntax {
-        let mut syntax = Syntax::Name(name);
-        while let Some(Token::TightField(field)) = self.peek() {
+    /// A name, or what stood in parentheses, with the fields right behind it.
+    fn projected(&mut self, mut syntax: Syntax) -> Syntax {
+        while let Some(Token::Field(field)) = self.peek() {
             syntax = Syntax::Project(Box::new(syntax), field.clone());
             self.at += 1;
         }
@@ -229,8 +253,12 @@ mod tests {
 
     fn right_side(text: &str) -> String {
         let tokens = lines(&format!("f = {text}")).unwrap().remove(0).tokens;
-        let fixity = |name: &str| fixity(&format!("_{name}_"));
         show(&clause(&tokens, &fixity).unwrap().1)
+    }
+
+    fn is_refused(text: &str) -> bool {
+        let tokens = lines(&format!("f = {text}")).unwrap().remove(0).tokens;
+        clause(&tokens, &fixity).is_err()
     }
 
     /// The expression with all its parentheses.
@@ -256,32 +284,47 @@ mod tests {
     }
 
     #[test]
-    fn a_projection_takes_the_whole_application() {
+    fn a_projection_takes_what_it_stands_behind() {
         assert_eq!(
-            right_side("pathOf e k .master .0 + h r.f (x .a)"),
-            "(_+_ (((pathOf e k)).master).0 (h (r).f (x).a))"
+            right_side("(path_of e k).master.0 + h r.f (g x).a"),
+            "(◌+◌ (((path_of e k)).master).0 (h (r).f ((g x)).a))"
         );
     }
 
     #[test]
     fn operators_bind_as_in_the_toolchain() {
-        assert_eq!(right_side("a - b - c"), "(_-_ (_-_ a b) c)");
+        assert_eq!(right_side("a - b - c"), "(◌-◌ (◌-◌ a b) c)");
         assert_eq!(
             right_side("v / 256 % 256 ∷ a * 2 ∷ []"),
-            "(_∷_ (_%_ (_/_ v 256) 256) (_∷_ (_*_ a 2) []))"
+            "(◌∷◌ (◌%◌ (◌/◌ v 256) 256) (◌∷◌ (◌*◌ a 2) []))"
         );
         assert_eq!(
             right_side("not a && b || c && d"),
-            "(_||_ (_&&_ (not a) b) (_&&_ c d))"
+            "(◌||◌ (◌&&◌ (not a) b) (◌&&◌ c d))"
         );
-        assert_eq!(right_side("a + b ∷ c"), "(_+_ a (_∷_ b c))");
+        assert_eq!(right_side("a + b ∷ c"), "(◌+◌ a (◌∷◌ b c))");
+        assert_eq!(right_side("a + b == c && d"), "(◌&&◌ (◌==◌ (◌+◌ a b) c) d)");
+        assert!(is_refused("a == b == c"));
+    }
+
+    #[test]
+    fn a_choice_reaches_as_far_as_it_can() {
+        assert_eq!(
+            right_side("if f a && b then c ∷ d else if e then g else h + 1"),
+            "(if◌then◌else◌ (◌&&◌ (f a) b) (◌∷◌ c d) (if◌then◌else◌ e g (◌+◌ h 1)))"
+        );
+        assert_eq!(
+            right_side("(if a then b else c) ∷ d"),
+            "(◌∷◌ (if◌then◌else◌ a b c) d)"
+        );
+        assert!(is_refused("if a then b"));
     }
 
     #[test]
     fn a_pair_is_a_record_of_its_two_sides() {
         assert_eq!(
-            right_side("f ((a ∷ [], g x .b) ∷ rows) (row .1)"),
-            "(f (_∷_ {0 = (_∷_ a []); 1 = ((g x)).b} rows) (row).1)"
+            right_side("f ((a ∷ [], (g x).b) ∷ rows) row.1"),
+            "(f (◌∷◌ {0 = (◌∷◌ a []); 1 = ((g x)).b} rows) (row).1)"
         );
     }
 
@@ -289,7 +332,7 @@ mod tests {
     fn a_lambda_reaches_to_the_closing_parenthesis() {
         assert_eq!(
             right_side("f (λ k. g k && h) n"),
-            "(f (λ k. (_&&_ (g k) h)) n)"
+            "(f (λ k. (◌&&◌ (g k) h)) n)"
         );
     }
 }

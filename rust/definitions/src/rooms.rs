@@ -1,12 +1,14 @@
 //! Where the definition files come from: `ROOM/specs/FILE.antt` in the folder
 //! of the rooms.
 
+use std::collections::HashMap;
 use std::fs;
 use std::path::{Path, PathBuf};
 
 #[derive(Clone, Debug)]
 pub struct Rooms {
     folder: PathBuf,
+    pages: HashMap<String, String>,
     changes: Vec<Change>,
 }
 
@@ -21,6 +23,7 @@ impl Rooms {
     pub fn new(folder: &Path) -> Rooms {
         Rooms {
             folder: folder.to_path_buf(),
+            pages: HashMap::new(),
             changes: Vec::new(),
         }
     }
@@ -28,6 +31,12 @@ impl Rooms {
     /// The rooms of this repository.
     pub fn ours() -> Rooms {
         Rooms::new(&Path::new(env!("CARGO_MANIFEST_DIR")).join("../../crates"))
+    }
+
+    /// The same rooms with one more module, `room/File`, that has no file.
+    pub fn with(mut self, module: &str, text: &str) -> Rooms {
+        self.pages.insert(module.to_string(), text.to_string());
+        self
     }
 
     /// The same rooms with a text of one module, `room/File`, read as another:
@@ -47,9 +56,11 @@ impl Rooms {
     }
 
     pub fn text(&self, room: &str, file: &str) -> Result<String, String> {
-        let text = fs::read_to_string(self.path(room, file));
-        let mut text = text.map_err(|fault| fault.to_string())?;
         let module = format!("{room}/{file}");
+        let mut text = match self.pages.get(&module) {
+            Some(text) => text.clone(),
+            None => fs::read_to_string(self.path(room, file)).map_err(|fault| fault.to_string())?,
+        };
         for change in self.changes.iter().filter(|c| c.module == module) {
             // A change that finds nothing to change would go unnoticed.
             if text.matches(&change.from).count() != 1 {

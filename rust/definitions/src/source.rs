@@ -100,9 +100,7 @@ impl Source {
                 Token::OpenBrace => inside = true,
                 Token::Name(name) if inside => names.push(name.clone()),
                 Token::Comma => self.import_one(&module, &std::mem::take(&mut names)),
-                Token::Name(part) | Token::Field(part) | Token::TightField(part) => {
-                    module.push(part.clone());
-                }
+                Token::Name(part) | Token::Field(part) => module.push(part.clone()),
                 _ => (),
             }
         }
@@ -189,15 +187,15 @@ mod tests {
 
     #[test]
     fn imports_sections_and_constructors_are_found() {
-        let text = "use a·b.c.{d, _∷_ as _∷ᴸ_}\n\
+        let text = "use a.b.c.{d, ◌∷◌ as ◌∷ᴸ◌}\n\
                     -- a remark\n\
                     pub data Spot : Type 0 where\n  last : Spot\n  after before : ℕ → Spot\n\
                     module _ {A : Type 0} (x y : ℕ) (z : List ℕ) where\n  \
                     abbrev pub f : ℕ → ℕ\n  f k =\n      k + x\n\
                     g zero = 1\ng (suc n) = 2\n";
         let source = Source::read(text).unwrap();
-        assert_eq!(source.imports["d"].module, ["a·b", "c"]);
-        assert_eq!(source.imports["_∷ᴸ_"].original, "_∷_");
+        assert_eq!(source.imports["d"].module, ["a", "b", "c"]);
+        assert_eq!(source.imports["◌∷ᴸ◌"].original, "◌∷◌");
         assert_eq!(source.constructors, ["last", "after", "before"]);
         let section = source.definitions["f"].section.as_ref().unwrap();
         assert_eq!(section.parameters, ["x", "y", "z"]);

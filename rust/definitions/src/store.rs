@@ -27,11 +27,11 @@ pub struct Outcome {
 }
 
 const OUTCOME: &str = "calls/Outcome.outcome";
-const STATUS_NUMBER: &str = "terms/Status.statusNumber";
+const STATUS_NUMBER: &str = "terms/Status.status_number";
 
 /// Definitions of a schema's bytes alone. The same schema serves many calls,
 /// so what they came to last is kept.
-const OF_A_SCHEMA: [&str; 2] = ["schema/Decode.schemaOf", "schema/Layout.keepsRules"];
+const OF_A_SCHEMA: [&str; 2] = ["schema/Decode.schema_of", "schema/Layout.keeps_rules"];
 
 /// The fields of the records `Call` and `Outcome`.
 const FIELDS: [&str; 9] = [

@@ -1,32 +1,18 @@
 //! The forms that definitions are written in, each by a definition of the room
 //! `forms`, which `forms.txt` beside this file is the one page of. No prover
-//! reads it, so it stands in no crate, and its name is not a definition file's.
+//! reads it, so it stands in no crate, and its name is not a definition file's:
+//! the gate refuses such a file anywhere but in a crate.
 
-use std::path::{Path, PathBuf};
-use std::sync::OnceLock;
 use yarugota_definitions::compiler::compile;
 use yarugota_definitions::evaluator::{Evaluator, Stuck};
 use yarugota_definitions::rooms::Rooms;
 use yarugota_definitions::values::Value;
 
-/// The folder that has the room, with the page where a room has it.
-fn folder() -> &'static Path {
-    static FOLDER: OnceLock<PathBuf> = OnceLock::new();
-    FOLDER.get_or_init(|| {
-        let folder = Path::new(env!("CARGO_TARGET_TMPDIR")).join("rooms");
-        let specs = folder.join("forms/specs");
-        std::fs::create_dir_all(&specs).expect("a folder for the room");
-        let page = include_str!("forms.txt");
-        std::fs::write(specs.join("Forms.antt"), page).expect("the room's page");
-        folder
-    })
-}
-
 /// The number that a definition of the room makes of a number.
 fn made(name: &str, number: u64) -> Result<u64, Stuck> {
-    let folder = folder();
+    let rooms = Rooms::ours().with("forms/Forms", include_str!("forms.txt"));
     let name = format!("forms/Forms.{name}");
-    let program = compile(&Rooms::new(folder), &[&name], &[]);
+    let program = compile(&rooms, &[&name], &[]);
     let program = program.unwrap_or_else(|fault| panic!("{fault}"));
     let definition = program.definition(&name).expect("what was asked for");
     let evaluator = Evaluator::new(&program);
@@ -54,15 +40,30 @@ fn records_of_functions() {
 
 #[test]
 fn the_row_of_a_table() {
-    assert_eq!(made("fromTable", 1).unwrap(), 10);
-    assert_eq!(made("fromTable", 3).unwrap(), 30);
-    assert_eq!(made("fromTable", 4).unwrap(), 0);
+    assert_eq!(made("from_table", 1).unwrap(), 10);
+    assert_eq!(made("from_table", 3).unwrap(), 30);
+    assert_eq!(made("from_table", 4).unwrap(), 0);
 }
 
 // What a table has for others is not looked at, nor are the rows behind.
 #[test]
 fn no_row_is_evaluated_but_the_one_that_is_taken() {
-    assert!(made("fromTable", 2).is_err());
-    assert_eq!(made("fromGuardedTable", 1).unwrap(), 1);
-    assert!(made("fromGuardedTable", 2).is_err());
+    assert!(made("from_table", 2).is_err());
+    assert_eq!(made("from_guarded_table", 1).unwrap(), 1);
+    assert!(made("from_guarded_table", 2).is_err());
+}
+
+#[test]
+fn a_choice_in_words() {
+    assert_eq!(made("graded", 2).unwrap(), 1);
+    assert_eq!(made("graded", 3).unwrap(), 2);
+    assert_eq!(made("graded", 4).unwrap(), 7);
+    assert_eq!(made("guarded", 1).unwrap(), 1);
+    assert!(made("guarded", 2).is_err());
+}
+
+#[test]
+fn elements_of_a_list_and_past_its_end() {
+    assert_eq!(made("picked", 1).unwrap(), 5 + 20);
+    assert_eq!(made("picked", 2).unwrap(), 30);
 }

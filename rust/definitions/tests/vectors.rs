@@ -31,8 +31,8 @@ fn is_noticed(module: &str, from: &str, to: &str) {
 fn a_moved_stranger_with_its_prior_left_behind_is_noticed() {
     is_noticed(
         "masters/Root",
-        "∷ (rootPriorSide e (rootPrior b e h) f ++ rootNextSide e (rootNext b e h) f)",
-        "∷ rootNextSide e (rootNext b e h) f",
+        "∷ (root_prior_side e (root_prior b e h) f ++ root_next_side e (root_next b e h) f)",
+        "∷ root_next_side e (root_next b e h) f",
     );
 }
 
@@ -40,8 +40,8 @@ fn a_moved_stranger_with_its_prior_left_behind_is_noticed() {
 fn zero_for_a_deleted_first_record_is_noticed() {
     is_noticed(
         "calls/Reply",
-        "orLink p r = cond (eqb r 0) (linkOf p) r",
-        "orLink p r = r",
+        "or_link p r = cond (eqb r 0) (link_of p) r",
+        "or_link p r = r",
     );
 }
 
@@ -49,8 +49,8 @@ fn zero_for_a_deleted_first_record_is_noticed() {
 fn a_record_linked_on_the_first_path_only_is_noticed() {
     is_noticed(
         "points/Points",
-        "(addMaster k) (addLink k) r) (e .count)",
-        "(addMaster k) (addLink k) r) 1",
+        "(add_master k) (add_link k) r) e.count",
+        "(add_master k) (add_link k) r) 1",
     );
 }
 
@@ -58,8 +58,8 @@ fn a_record_linked_on_the_first_path_only_is_noticed() {
 fn one_linkage_field_for_two_paths_to_a_master_is_noticed() {
     is_noticed(
         "schema/Layout",
-        "8 * linksBefore s (masterOf s i j) (4 * i + j)",
-        "8 * linksBefore s (masterOf s i j) (4 * i)",
+        "8 * links_before s (master_of s i j) (4 * i + j)",
+        "8 * links_before s (master_of s i j) (4 * i)",
     );
 }
 
@@ -67,7 +67,7 @@ fn one_linkage_field_for_two_paths_to_a_master_is_noticed() {
 fn a_set_called_full_with_a_place_free_is_noticed() {
     is_noticed(
         "scan/Scan",
-        "isFull b e = ltb (e .records) (lowestFree b e)",
-        "isFull b e = isLive b e (e .records)",
+        "is_full b e = ltb e.records (lowest_free b e)",
+        "is_full b e = is_live b e e.records",
     );
 }

@@ -10,7 +10,7 @@ use std::time::{Duration, Instant};
 use yarugota_differential::Store;
 use yarugota_load::Load;
 
-/// Far above what any call here takes, under an emulator too.
+/// Far above what any call here takes.
 const DEADLINE: Duration = Duration::from_secs(120);
 
 struct Asked {

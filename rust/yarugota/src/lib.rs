@@ -39,11 +39,9 @@
 //! # Ok::<(), Status>(())
 //! ```
 //!
-//! The proved library is for x86-64. On such a processor it is linked in; on
-//! another, calls go to a program of their own under an emulator, which takes
-//! longer but answers the same. Either way the repository's `tools/archives`
-//! must have built the library; where it has not, the first call panics and
-//! says so.
+//! The proved library is for x86-64, and is linked in. The repository's
+//! `tools/archives` must have built it; where it has not, the first call panics
+//! and says so.
 
 mod names;
 mod operation;
