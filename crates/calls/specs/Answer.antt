@@ -1,23 +1,16 @@
 -- The ladder taken in groups, as the code goes down it: the group that refuses first decides. Behind the groups that all calls share an
 -- operation is left with the rest, which is a few tests.
-use Rattle.std.specs.Prelude.{◌<◌, ◌≡◌, Bool, true, false, eqb}
+use Rattle.std.specs.Prelude.{◌<◌, ◌≡◌, Bool, true, false}
 use Rattle.std.proofs.Math.Path.{refl, ap}
 use Rattle.std.proofs.Common.{◌∙◌, arith, lit<, ne_eqb}
 use Rattle.std.proofs.Math.Bool.{cond}
 use mathlib.Core.List.{List, [], ◌∷◌, ◌++◌}
 use Rattle.terms.specs.declared.Status.{Status}
 use Rattle.terms.specs.Status.{status_number, first_of}
-use Rattle.calls.specs.Call.{Call, Outcome}
+use Rattle.calls.specs.Call.{Call}
 use Rattle.calls.specs.Scene.{Scene}
 use Rattle.calls.specs.Ladder.{Rung, rule_of, general_rungs, place_rungs, form_rungs, seek_rungs, rest_rungs, ladder, refuses, refusal}
-use Rattle.calls.specs.Outcome.{refused, done}
 use Rattle.calls.specs.OutcomeLaws.{Refusing}
-
--- what a status makes of a call
-unfoldable pub answered : Scene → Call → Status → Outcome
-answered x c s = cond (eqb (status_number s) 0) (done x c) (refused c s)
-
--- ---- groups
 
 one : (b : Bool) (s : Status) (t u : Status) → 0 < status_number s → cond b s (first_of t u) ≡ first_of (cond b s t) u
 one true s t u h = rw (ne_eqb (status_number s) 0 (λ e. omega arith)) refl

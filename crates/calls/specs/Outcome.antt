@@ -17,6 +17,10 @@ refused c s = record { status = s; reference = c.reference; area = c.area; base 
 unfoldable pub done : Scene → Call → Outcome
 done x c = record { status = Done; reference = reference_after x c; area = area_after x c; base = base_after x c }
 
+-- what a status makes of a call
+unfoldable pub answered : Scene → Call → Status → Outcome
+answered x c s = cond (eqb (status_number s) 0) (done x c) (refused c s)
+
 unfoldable pub outcome_in : Scene → Call → Outcome
 outcome_in x c = cond (eqb (status_number (refusal x c (ladder x))) 0) (done x c) (refused c (refusal x c (ladder x)))
 

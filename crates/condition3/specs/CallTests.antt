@@ -27,7 +27,7 @@ use Rattle.masters.specs.Root.{add_master_full}
 use Rattle.points.specs.Chains.{is_point_of, has_points}
 use Rattle.points.specs.Points.{find_on}
 use Rattle.points.specs.declared.Spot.TheVariants.{Last, After, Before}
-use Rattle.sound.specs.KeyLaws.{Live}
+use Rattle.sound.specs.Sets.{Live}
 use Rattle.calls.specs.Call.{Call, one_of, variable_calls, adds, whole_calls}
 use Rattle.calls.specs.Scene.{Scene, scene_under}
 use Rattle.schema.specs.Naming.{set_named, path_named}

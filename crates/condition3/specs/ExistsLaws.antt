@@ -22,7 +22,7 @@ use Rattle.masters.specs.declared.Found.TheVariants.{At, Missing, Damaged}
 use Rattle.masters.specs.Find.{find, is_missing, is_damaged}
 use Rattle.masters.specs.FindLaws.{find_at}
 use Rattle.chains.specs.Members.{In}
-use Rattle.sound.specs.KeyLaws.{Live}
+use Rattle.sound.specs.Sets.{Live}
 use Rattle.calls.specs.Call.{Call}
 use Rattle.schema.specs.Naming.{set_named}
 use Rattle.calls.specs.Ladder.Rung.{MasterIntact, MasterThere}

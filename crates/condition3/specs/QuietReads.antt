@@ -17,7 +17,7 @@ use Rattle.points.specs.Chains.{is_point_of, read_damaged}
 use Rattle.points.specs.Points.{find_on}
 use Rattle.chains.specs.Members.{In, in_left, in_right}
 use Rattle.chains.specs.Segments.{last_or, head_or, at_ends}
-use Rattle.sound.specs.KeyLaws.{Live}
+use Rattle.sound.specs.Sets.{Live}
 use Rattle.calls.specs.Call.{Call, one_of, variable_calls, whole_calls}
 use Rattle.calls.specs.Scene.{Scene, scene_under}
 use Rattle.calls.specs.Ladder.{is_link, needers, finders, chain_reads}

@@ -10,7 +10,7 @@ use Rattle.schema.specs.Decode.{path_of, masters_on}
 use Rattle.records.specs.Records.{master_key}
 use Rattle.chains.specs.Members.{All, In}
 use Rattle.chains.specs.Segments.{Run, seg-run, seg-reverse}
-use Rattle.sound.specs.KeyLaws.{Live}
+use Rattle.sound.specs.Sets.{Live}
 use Rattle.calls.specs.Call.{Call}
 use Rattle.calls.specs.Reply.{given_by, given, reference_after, area_after}
 use Rattle.calls.specs.Outcome.{done, outcome}

@@ -9,7 +9,7 @@ use Rattle.calls.specs.Call.{Call, Outcome}
 use Rattle.calls.specs.Scene.{scene_under}
 use Rattle.calls.specs.Ladder.{place_rungs, form_rungs, seek_rungs, rest_rungs, refusal}
 use Rattle.ends.specs.Ends.{Ends}
-use Rattle.calls.specs.Answer.{answered}
+use Rattle.calls.specs.Outcome.{answered}
 use Rattle.terms.specs.Status.{first_of}
 
 -- the call c asks for the operation o, with this name, reference, key, area and base

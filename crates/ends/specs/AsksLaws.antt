@@ -18,7 +18,7 @@ use Rattle.calls.specs.Call.{Call, Outcome, call_of}
 use Rattle.calls.specs.Scene.{scene_under}
 use Rattle.calls.specs.SceneLaws.{found_here}
 use Rattle.calls.specs.Ladder.{seek_rungs, rest_rungs, refusal}
-use Rattle.calls.specs.Answer.{answered}
+use Rattle.calls.specs.Outcome.{answered}
 use Rattle.ends.specs.Ends.{Ends}
 use Rattle.ends.specs.EndsLaws.{refused-ends}
 use Rattle.ends.specs.Asks.{Asks, placed_outcome}

@@ -18,8 +18,7 @@ use Rattle.plans.specs.Plan.{Store, blocks_sealed, store_all, seal_all, committe
 use Rattle.calls.specs.Call.{Call, one_of}
 use Rattle.calls.specs.Scene.{Scene}
 use Rattle.calls.specs.Reply.{or_end, given, reference_after, area_after, stores_of, base_after}
-use Rattle.calls.specs.Outcome.{refused, done}
-use Rattle.calls.specs.Answer.{answered}
+use Rattle.calls.specs.Outcome.{refused, done, answered}
 use Rattle.calls.specs.RestLaws.{storable}
 use Rattle.ends.specs.Ends.{Ends, gave, settled}
 

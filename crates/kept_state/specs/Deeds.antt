@@ -4,9 +4,7 @@ use Rattle.std.specs.Prelude.{ℕ, ◌<◌, ◌≡◌, ◌≢◌, List, [], ◌�
 use Rattle.octets.specs.Octets.{word_bytes, run, zeros}
 use Rattle.schema.specs.declared.Schema.{Schema}
 use Rattle.schema.specs.Decode.{entry_of}
-use Rattle.records.specs.Address.{Address, IsAddress, address_at, body}
-use Rattle.records.specs.AddressLaws.{address}
-use Rattle.records.specs.FieldLaws.{WordField, Fills}
+use Rattle.records.specs.Address.{Address, IsAddress, address_at, body, address, WordField, Fills}
 use Rattle.records.specs.WholeRecords.{IsWhole, Elsewhere}
 use Rattle.blocks.specs.Blocks.{check_by}
 use Rattle.plans.specs.Plan.{Store, store_run, store_record, committed}

@@ -6,7 +6,7 @@ use Rattle.schema.specs.Decode.{entry_of, path_of, masters_on}
 use Rattle.schema.specs.Place.{InSet}
 use Rattle.schema.specs.Guarantee.{IsPathOf}
 use Rattle.records.specs.Records.{is_live, root_next, root_prior, master_key, first_on, last_on, key_on, prior_on, next_on}
-use Rattle.sound.specs.KeyLaws.{Live}
+use Rattle.sound.specs.Sets.{Live}
 
 -- the masters of set n: live where they were, with their keys and ROOT pointers
 pub record SameMasters (t : Schema) (b c : List ℕ) (n : ℕ) : Type 0 where

@@ -18,7 +18,7 @@ use Rattle.records.specs.FieldPlaces.{record_least}
 use Rattle.plans.specs.Plan.{formatted}
 use Rattle.plans.specs.PlanLaws.{length-formatted, formatted-sealed, formatted_zero}
 use Rattle.sound.specs.Sound.{record_clean, leftover_clean, set_clean, home_list}
-use Rattle.sound.specs.KeyLaws.{Live, MasterSet}
+use Rattle.sound.specs.Sets.{Live, MasterSet}
 use Rattle.sound.specs.HomeLaws.{HomeChain, home_sound-holds}
 use Rattle.kept_state.specs.Rows.{World, PathRows, Represents}
 use Rattle.kept_state.specs.SettleLaws.{zero_run, clean-holds}

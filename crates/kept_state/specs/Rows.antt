@@ -13,7 +13,7 @@ use Rattle.chains.specs.Segments.{Seg, headed}
 use Rattle.points.specs.declared.Spot.{Spot}
 use Rattle.points.specs.declared.Spot.TheVariants.{Last, After, Before}
 use Rattle.sound.specs.Sound.{set_clean}
-use Rattle.sound.specs.KeyLaws.{Live, MasterSet}
+use Rattle.sound.specs.Sets.{Live, MasterSet}
 
 -- a schema that keeps the rules, with its sets' fields one behind the other
 pub record World (t : Schema) : Type 0 where

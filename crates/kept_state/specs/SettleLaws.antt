@@ -19,10 +19,10 @@ use Rattle.schema.specs.Place.{InSet, record_of, blocks_held, leftover_of}
 use Rattle.schema.specs.Guarantee.{SchemaOk}
 use Rattle.schema.specs.GuaranteeLaws.{lies}
 use Rattle.records.specs.Records.{is_live}
-use Rattle.records.specs.Address.{body, Address, IsAddress, offset_of}
-use Rattle.records.specs.AddressLaws.{address, address-inside}
-use Rattle.records.specs.FieldLaws.{Fills}
-use Rattle.records.specs.WholeRecords.{IsWhole, record_of-put_record, record_of-put_record-other}
+use Rattle.records.specs.Address.{body, Address, IsAddress, offset_of, address, Fills}
+use Rattle.records.specs.AddressLaws.{address-inside}
+use Rattle.records.specs.WholeRecords.{IsWhole}
+use Rattle.records.specs.WholeLaws.{record_of-put_record, record_of-put_record-other}
 use Rattle.records.specs.FillerLaws.{filler_of, filler_of-record_of, filler_of-put_run, filler_of-seal, leftover_of-inside, leftover_of-put_record, leftover_of-seal}
 use Rattle.plans.specs.Plan.{Store, store_run, store_block, blocks_sealed}
 use Rattle.plans.specs.PlanLaws.{committed-sealed}

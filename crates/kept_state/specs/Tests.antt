@@ -13,7 +13,7 @@ use Rattle.points.specs.Chains.{has_points}
 use Rattle.points.specs.Points.{find_on}
 use Rattle.points.specs.declared.Spot.{Spot}
 use Rattle.points.specs.declared.Spot.TheVariants.{Last, After, Before}
-use Rattle.sound.specs.KeyLaws.{Live}
+use Rattle.sound.specs.Sets.{Live}
 
 -- ADD-M on set n
 pub record AddMasterTests (t : Schema) (b : List ℕ) (n : ℕ) (key area : List ℕ) : Type 0 where

@@ -30,9 +30,8 @@ use Rattle.calls.specs.SceneLaws.{schema-here, operation-here}
 use Rattle.calls.specs.Call.{Call}
 use Rattle.calls.specs.Scene.{Scene, scene_under}
 use Rattle.calls.specs.Reply.{master_in, home_of_key, given, reference_after, area_after, stores_of, base_after}
-use Rattle.calls.specs.Outcome.{done}
+use Rattle.calls.specs.Outcome.{done, answered}
 use Rattle.calls.specs.Ladder.{rest_rungs, refusal}
-use Rattle.calls.specs.Answer.{answered}
 use Rattle.terms.specs.Status.{first_of}
 use Rattle.terms.specs.Laws.{two_first}
 use Rattle.calls.specs.RestLaws.{storable, rest-readm, rest-writm, rest-addm, rest-delm, rest_rqloc}

@@ -26,7 +26,7 @@ use Rattle.calls.specs.Scene.{scene_under}
 use Rattle.schema.specs.Naming.{set_named, link_of}
 use Rattle.schema.specs.NamingLaws.{set_named_lem}
 use Rattle.calls.specs.Ladder.{wrong_kind, place_rungs, form_rungs, seek_rungs, rest_rungs, refusal}
-use Rattle.calls.specs.Answer.{answered}
+use Rattle.calls.specs.Outcome.{answered}
 use Rattle.forms.specs.Form.{form_status}
 use Rattle.forms.specs.FormLaws.{form-tests, form-link, form-on}
 use Rattle.master_calls.specs.declared.Placed.{Placed}

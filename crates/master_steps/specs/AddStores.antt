@@ -19,7 +19,7 @@ use Rattle.masters.specs.Root.{root_prior_side, root_next_side, put_master, add_
 use Rattle.terms.specs.Laws.{home_in_set}
 use Rattle.chains.specs.Segments.{last_or}
 use Rattle.sound.specs.Sound.{home_list}
-use Rattle.sound.specs.KeyLaws.{Live}
+use Rattle.sound.specs.Sets.{Live}
 use Rattle.kept_state.specs.Deeds.{whole, after}
 use Rattle.kept_state.specs.Tests.{AddMasterTests}
 use Rattle.master_steps.specs.RowLaws.{none_list, rows_of}

@@ -10,12 +10,12 @@ use Rattle.schema.specs.Decode.{entry_of, set_count}
 use Rattle.schema.specs.Place.{InSet, record_of}
 use Rattle.schema.specs.Guarantee.{SchemaOk}
 use Rattle.records.specs.Records.{is_live, master_key}
-use Rattle.records.specs.Address.{Field, root-next, root-prior, own_key, body, first, last}
-use Rattle.records.specs.AddressLaws.{address, field_kind, other_kind}
+use Rattle.records.specs.Address.{Field, root-next, root-prior, own_key, body, first, last, address}
+use Rattle.records.specs.AddressLaws.{field_kind, other_kind}
 use Rattle.plans.specs.Plan.{Store, store_run}
 use Rattle.chains.specs.Members.{All, In, Fresh, all_in, in?}
 use Rattle.sound.specs.Sound.{set_clean}
-use Rattle.sound.specs.KeyLaws.{Live, MasterSet}
+use Rattle.sound.specs.Sets.{Live, MasterSet}
 use Rattle.kept_state.specs.Deeds.{Deed, fill, stores_for, after, AllValid, Misses, AllSpared, AllOff, AllZeroed}
 use Rattle.kept_state.specs.Frames.{SameMasters, Carried, Bare, Moved}
 use Rattle.kept_state.specs.DeedLaws.{word_missed, run_missed, live-missed}

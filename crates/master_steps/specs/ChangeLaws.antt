@@ -14,7 +14,7 @@ use Rattle.terms.specs.Laws.{home_in_set}
 use Rattle.chains.specs.Members.{all_in, all_right}
 use Rattle.chains.specs.Segments.{last_or}
 use Rattle.sound.specs.Sound.{home_list}
-use Rattle.sound.specs.KeyLaws.{Live, MasterSet}
+use Rattle.sound.specs.Sets.{Live, MasterSet}
 use Rattle.sound.specs.HomeLaws.{OfHome}
 use Rattle.master_steps.specs.LinkedLists.{none_first}
 use Rattle.master_steps.specs.RowLaws.{HomeRow, HomePlace, own-holds, none_list, no_zeros, rows_of, own_row, place_in_list}

@@ -21,7 +21,7 @@ use Rattle.plans.specs.Plan.{store_record}
 use Rattle.masters.specs.Find.{own_home}
 use Rattle.masters.specs.Root.{synonym_moves, del_by_move, del_by_unlink, del_master_stores}
 use Rattle.points.specs.Chains.{has_points}
-use Rattle.sound.specs.KeyLaws.{Live}
+use Rattle.sound.specs.Sets.{Live}
 use Rattle.kept_state.specs.Deeds.{whole, after, AllValid, AllZeroed}
 use Rattle.kept_state.specs.Frames.{Bare}
 use Rattle.master_steps.specs.RowLaws.{own-holds}

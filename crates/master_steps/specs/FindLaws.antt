@@ -13,7 +13,7 @@ use Rattle.terms.specs.Laws.{home_in_set}
 use Rattle.chains.specs.Members.{All, all_map}
 use Rattle.sound.specs.Sound.{home_list, has_master}
 use Rattle.sound.specs.ListLaws.{in_set_test}
-use Rattle.sound.specs.KeyLaws.{Live, MasterSet}
+use Rattle.sound.specs.Sets.{Live, MasterSet}
 use Rattle.sound.specs.HomeLaws.{OfHome}
 use Rattle.sound.specs.MasterLaws.{sound_placed}
 use Rattle.sound.specs.PathLaws.{has_master_says, has_master-holds}

@@ -7,7 +7,7 @@ use Rattle.schema.specs.Place.{InSet}
 use Rattle.schema.specs.Guarantee.{IsPathOf}
 use Rattle.records.specs.Areas.{area_of}
 use Rattle.sound.specs.Sound.{set_clean}
-use Rattle.sound.specs.KeyLaws.{MasterSet}
+use Rattle.sound.specs.Sets.{MasterSet}
 use Rattle.kept_state.specs.Frames.{SameMasters, SameHeads, SamePoints, Moved}
 
 pub record MasterStep (t : Schema) (b c : List ℕ) (n : ℕ) : Type 0 where

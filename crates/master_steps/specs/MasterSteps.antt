@@ -11,8 +11,7 @@ use Rattle.schema.specs.Decode.{entry_of, path_of, set_count}
 use Rattle.schema.specs.Place.{InSet, record_of}
 use Rattle.schema.specs.Guarantee.{IsPathOf}
 use Rattle.records.specs.Records.{is_live, master_key}
-use Rattle.records.specs.Address.{Field, root-next, root-prior, own_key, body, key, prior, next, first, last, size_of, HasField, get_run, get_word}
-use Rattle.records.specs.AddressLaws.{address}
+use Rattle.records.specs.Address.{Field, root-next, root-prior, own_key, body, key, prior, next, first, last, size_of, HasField, get_run, get_word, address}
 use Rattle.records.specs.KindLaws.{is_variable}
 use Rattle.records.specs.Areas.{area_of, area_keys, area_body}
 use Rattle.blocks.specs.Blocks.{check_by}
@@ -20,7 +19,7 @@ use Rattle.plans.specs.Plan.{Store, store_run, blocks_sealed, committed}
 use Rattle.masters.specs.Find.{find, home_in, record_found, is_at}
 use Rattle.masters.specs.Root.{add_master_stores, del_master_stores}
 use Rattle.sound.specs.Sound.{set_clean}
-use Rattle.sound.specs.KeyLaws.{Live}
+use Rattle.sound.specs.Sets.{Live}
 use Rattle.kept_state.specs.AreaMade.{area_same}
 use Rattle.kept_state.specs.Deeds.{Deed, after}
 use Rattle.kept_state.specs.Frames.{SameMasters, SameHeads, SamePoints}

@@ -10,7 +10,7 @@ use Rattle.masters.specs.Find.{own_home, held_by_own, tail_from}
 use Rattle.chains.specs.Members.{All, all_map, all_both, all_left, all_right, all_without, nodup-without}
 use Rattle.chains.specs.Segments.{last_or, head_or, all_last, all_head}
 use Rattle.sound.specs.Sound.{home_list}
-use Rattle.sound.specs.KeyLaws.{Live, MasterSet}
+use Rattle.sound.specs.Sets.{Live, MasterSet}
 use Rattle.sound.specs.HomeLaws.{OfHome}
 use Rattle.master_steps.specs.LinkedLists.{Chained}
 use Rattle.master_steps.specs.RowLaws.{HomeRow, own-holds, held-list, no_zeros, home-nodup, tail-is, rows_of, own_row, place_in_list}

@@ -8,13 +8,13 @@ use Rattle.octets.specs.TestLaws.{never_both}
 use Rattle.schema.specs.declared.Schema.{Schema}
 use Rattle.schema.specs.Decode.{entry_of}
 use Rattle.schema.specs.Place.{record_of}
-use Rattle.records.specs.Address.{Field, root-next, root-prior, get_word}
-use Rattle.records.specs.AddressLaws.{address, other_kind, other_record}
+use Rattle.records.specs.Address.{Field, root-next, root-prior, get_word, address}
+use Rattle.records.specs.AddressLaws.{other_kind, other_record}
 use Rattle.records.specs.WholeRecords.{Elsewhere}
 use Rattle.masters.specs.Root.{root_prior_side, root_next_side}
 use Rattle.chains.specs.Members.{All, Fresh, in_all, all_left, all_right, not-fresh}
 use Rattle.chains.specs.Segments.{last_or, head_or, all_last, all_head}
-use Rattle.sound.specs.KeyLaws.{Live}
+use Rattle.sound.specs.Sets.{Live}
 use Rattle.kept_state.specs.Deeds.{Deed, point, whole, store_of, stores_for, after, AllValid, Misses, AllSpared, AllOff, AllZeroed}
 use Rattle.kept_state.specs.DeedLaws.{valid_append, zeroed_append, stores_for_append, word_missed, word_pointed, record_whole}
 use Rattle.master_steps.specs.Neighbours.{Side, side-within}

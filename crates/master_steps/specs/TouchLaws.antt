@@ -12,7 +12,7 @@ use Rattle.records.specs.Records.{is_live, root_next, root_prior, master_key}
 use Rattle.chains.specs.Members.{All, In, Fresh, NoDup, all_in, in_all, all_map, all_left, all_right, all_append, in_left, in_right, in?, not-fresh}
 use Rattle.chains.specs.Segments.{last_or, head_or}
 use Rattle.sound.specs.Sound.{home_list}
-use Rattle.sound.specs.KeyLaws.{Live, MasterSet}
+use Rattle.sound.specs.Sets.{Live, MasterSet}
 use Rattle.sound.specs.HomeLaws.{OfHome}
 use Rattle.master_steps.specs.LinkedLists.{in_other, middle-apart, not_last, not_first, Chained, chained-change}
 use Rattle.master_steps.specs.RowLaws.{HomeRow, HomeRows, no_zeros, home-nodup, rows-sound, rows_of, still-home, kept_row}

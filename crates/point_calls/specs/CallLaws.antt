@@ -19,7 +19,7 @@ use Rattle.calls.specs.Scene.{Scene, scene_under}
 use Rattle.calls.specs.Reply.{master_in, or_end, given, reference_after, stores_of}
 use Rattle.schema.specs.Naming.{link_of}
 use Rattle.calls.specs.Ladder.{rest_rungs, refusal, is_link}
-use Rattle.calls.specs.Answer.{answered}
+use Rattle.calls.specs.Outcome.{answered}
 use Rattle.calls.specs.RestLaws.{rest-readv, rest-readr, rest_readd}
 use Rattle.ends.specs.AsksLaws.{found_among}
 use Rattle.ends.specs.Ends.{Ends, gave}

@@ -23,7 +23,7 @@ use Rattle.calls.specs.SceneLaws.{operation-here}
 use Rattle.calls.specs.Call.{Call, Outcome}
 use Rattle.calls.specs.Scene.{scene_under}
 use Rattle.calls.specs.Ladder.{seek_rungs, rest_rungs, refusal, is_link}
-use Rattle.calls.specs.Answer.{answered}
+use Rattle.calls.specs.Outcome.{answered}
 use Rattle.forms.specs.Form.{rungs_of}
 use Rattle.ends.specs.Asks.{Asks, placed_outcome}
 use Rattle.ends.specs.AsksLaws.{given_back, found_among, seek-refuses, seek-passes}

@@ -33,7 +33,7 @@ use Rattle.calls.specs.Call.{Call, one_of}
 use Rattle.calls.specs.Scene.{Scene, scene_under}
 use Rattle.calls.specs.Reply.{spot_of, new_record, or_link, given, reference_after, area_after, stores_of}
 use Rattle.calls.specs.Ladder.{rest_rungs, refusal, other_stored_key}
-use Rattle.calls.specs.Answer.{answered}
+use Rattle.calls.specs.Outcome.{answered}
 use Rattle.terms.specs.Status.{first_of}
 use Rattle.calls.specs.RestLaws.{storable, rest-writv}
 use Rattle.ends.specs.Ends.{Ends, settled}

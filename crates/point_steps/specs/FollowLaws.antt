@@ -10,7 +10,7 @@ use Rattle.schema.specs.Guarantee.{IsPathOf}
 use Rattle.records.specs.Records.{master_key, key_on, first_on, last_on}
 use Rattle.chains.specs.Members.{all_map}
 use Rattle.chains.specs.Segments.{Seg, seg_frame}
-use Rattle.sound.specs.KeyLaws.{Live}
+use Rattle.sound.specs.Sets.{Live}
 use Rattle.kept_state.specs.Frames.{SameMasters, SameHeads, SamePoints, Moved}
 use Rattle.kept_state.specs.Rows.{World, next_node, prior_node, Mine, PathRows, Represents}
 use Rattle.master_steps.specs.RowLaws.{same_masters}

@@ -6,8 +6,7 @@ use Rattle.schema.specs.declared.Schema.{Schema}
 use Rattle.schema.specs.Decode.{entry_of, path_of, masters_on}
 use Rattle.schema.specs.Place.{InSet}
 use Rattle.schema.specs.Guarantee.{SchemaOk, IsPathOf}
-use Rattle.records.specs.Address.{Field, state, root-next, root-prior, own_key, body, key, prior, next, first, last, Address, get_word}
-use Rattle.records.specs.FieldLaws.{WordField}
+use Rattle.records.specs.Address.{Field, state, root-next, root-prior, own_key, body, key, prior, next, first, last, Address, get_word, WordField}
 use Rattle.records.specs.WholeRecords.{Elsewhere}
 use Rattle.points.specs.SideLaws.{forward_from, back_from}
 use Rattle.kept_state.specs.Rows.{next_node, prior_node}

@@ -14,12 +14,10 @@ use Rattle.schema.specs.Guarantee.{IsPathOf}
 use Rattle.records.specs.Records.{is_live}
 use Rattle.records.specs.Areas.{area_of}
 use Rattle.records.specs.KindLaws.{is_variable}
-use Rattle.records.specs.Address.{Field, root-next, root-prior, own_key, body, key, Address, IsAddress, get_word, get_run}
-use Rattle.records.specs.AddressLaws.{address}
-use Rattle.records.specs.FieldLaws.{WordField}
+use Rattle.records.specs.Address.{Field, root-next, root-prior, own_key, body, key, Address, IsAddress, get_word, get_run, address, WordField}
 use Rattle.records.specs.WholeRecords.{Elsewhere}
 use Rattle.sound.specs.Sound.{set_clean}
-use Rattle.sound.specs.KeyLaws.{Live}
+use Rattle.sound.specs.Sets.{Live}
 use Rattle.kept_state.specs.Deeds.{Deed, point, whole, fill, after, Valid, AllValid, Misses, AllSpared, AllOff, Zeroed, AllZeroed}
 use Rattle.kept_state.specs.DeedLaws.{length-after, word_missed, run_missed, live-missed}
 use Rattle.kept_state.specs.SettleLaws.{sealed-after, clean_after, free_missed}

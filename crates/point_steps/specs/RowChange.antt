@@ -14,7 +14,7 @@ use Rattle.records.specs.declared.Link.{Link}
 use Rattle.records.specs.Records.{is_live, master_key, key_on}
 use Rattle.chains.specs.Members.{All, In, Fresh, all_map, all_both, all_append, all_left, all_right, in_left, in_right, in_cases}
 use Rattle.chains.specs.Segments.{Seg, last_or, head_or, all_last, all_head, seg_frame, chain-change}
-use Rattle.sound.specs.KeyLaws.{Live, MasterSet}
+use Rattle.sound.specs.Sets.{Live, MasterSet}
 use Rattle.kept_state.specs.Frames.{SameMasters}
 use Rattle.kept_state.specs.Rows.{next_node, prior_node, Mine, PathRows}
 use Rattle.point_steps.specs.RowFacts.{path_numbered, masters_at, row_nozero, row-chain}

@@ -11,7 +11,7 @@ use Rattle.schema.specs.Place.{InSet}
 use Rattle.records.specs.Records.{master_key, first_on, last_on, prior_on, next_on}
 use Rattle.chains.specs.Members.{All, In, NoDup, all_map, all_in}
 use Rattle.chains.specs.Segments.{NoZero, Seg, seg-nodup, headed-at}
-use Rattle.sound.specs.KeyLaws.{Live}
+use Rattle.sound.specs.Sets.{Live}
 use Rattle.kept_state.specs.Rows.{next_node, prior_node, Mine, PathRows}
 
 -- path j of set i, and the set of its masters

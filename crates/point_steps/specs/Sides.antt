@@ -12,15 +12,14 @@ use Rattle.schema.specs.Decode.{entry_of, set_count}
 use Rattle.schema.specs.Place.{InSet, record_of}
 use Rattle.schema.specs.Guarantee.{SchemaOk, IsPathOf}
 use Rattle.records.specs.Records.{is_live, key_on}
-use Rattle.records.specs.Address.{Field, key, Address, offset_of, size_of, HasField, get_run, get_word}
-use Rattle.records.specs.AddressLaws.{address}
+use Rattle.records.specs.Address.{Field, key, Address, offset_of, size_of, HasField, get_run, get_word, address}
 use Rattle.records.specs.WholeRecords.{Elsewhere}
 use Rattle.blocks.specs.Blocks.{check_by}
 use Rattle.plans.specs.Plan.{blocks_sealed}
 use Rattle.points.specs.Chains.{prior_side, next_side}
 use Rattle.points.specs.SideLaws.{prior_side-is, next_side-is}
 use Rattle.chains.specs.Segments.{Seg}
-use Rattle.sound.specs.KeyLaws.{Live}
+use Rattle.sound.specs.Sets.{Live}
 use Rattle.kept_state.specs.Deeds.{Deed, point, whole, stores_for, after, Valid, AllValid, Miss, Misses, AllOff, Zeroed}
 use Rattle.kept_state.specs.DeedLaws.{each_append, each_below, misses_append, misses-below, misses-but, off-below, stores_for-below, word_pointed, record_whole}
 use Rattle.kept_state.specs.HeldLaws.{live-is, run_is, word_is}

@@ -20,7 +20,8 @@ use Rattle.chains.specs.Members.{all_map}
 use Rattle.sound.specs.Sound.{checks_true, set_clean, master_set_sound, path_list, variable_path_sound, variable_set_sound, set_sound, sound}
 use Rattle.sound.specs.SoundLaws.{sound-sealed, sound-set}
 use Rattle.sound.specs.ListLaws.{linked-seg, seg-linked}
-use Rattle.sound.specs.KeyLaws.{Live, MasterSet, master_set_says, master_set_holds}
+use Rattle.sound.specs.Sets.{Live, MasterSet}
+use Rattle.sound.specs.KeyLaws.{master_set_says, master_set_holds}
 use Rattle.sound.specs.RideLaws.{PointOf, IsChainOf, chain-is}
 use Rattle.sound.specs.PathLaws.{point-live, live-point, PathSet, path_set_says, path_set_holds}
 use Rattle.kept_state.specs.Rows.{World, Mine, PathRows, Represents}

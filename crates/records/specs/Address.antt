@@ -1,6 +1,6 @@
 -- An address is a set, a record and a field. Everything above this room reasons about addresses and forgets offsets: FieldLaws has the
 -- laws of reading and storing by address.
-use Rattle.std.specs.Prelude.{ℕ, ◌+◌, ◌<◌, ◌≡◌, List}
+use Rattle.std.specs.Prelude.{ℕ, ◌+◌, ◌<◌, ◌≡◌, List, length}
 use Rattle.octets.specs.Octets.{run, word_at, set_word, splice}
 use Rattle.schema.specs.declared.Entry.{Entry}
 use Rattle.schema.specs.declared.Schema.{Schema}
@@ -19,6 +19,10 @@ pub record Address : Type 0 where
   pub set : ℕ
   pub at : ℕ
   pub field : Field
+
+-- by its three parts
+abbrev pub address : ℕ → ℕ → Field → Address
+address n r f = record { set = n; at = r; field = f }
 
 -- where a field stands in a record of set e, and how long it is
 abbrev pub offset_of : Schema → Entry → Field → ℕ
@@ -68,6 +72,14 @@ address_at t a = place_of (entry_of t a.set) a.at + offset_of t (entry_of t a.se
 
 abbrev pub address_size : Schema → Address → ℕ
 address_size t a = size_of t (entry_of t a.set) a.field
+
+-- an address of a word: a pointer's
+abbrev pub WordField : Schema → Address → Type 0
+WordField t a = IsAddress t a × (address_size t a ≡ 4)
+
+-- the run fills the address
+abbrev pub Fills : Schema → Address → List ℕ → Type 0
+Fills t a ys = length ys ≡ address_size t a
 
 -- what stands at an address, as bytes and as a word, and the data base with other bytes or another word there
 abbrev pub get_run : Schema → List ℕ → Address → List ℕ

@@ -12,13 +12,10 @@ use Rattle.schema.specs.Place.{InSet, place_of, LiesIn}
 use Rattle.schema.specs.Guarantee.{SchemaOk}
 use Rattle.schema.specs.PlaceLaws.{place_in_block, place_inside}
 use Rattle.schema.specs.GuaranteeLaws.{lies, places-apart}
-use Rattle.records.specs.Address.{Field, state, root-next, root-prior, own_key, body, key, prior, next, first, last, Address, offset_of, size_of, HasField, IsAddress, address_at, address_size}
+use Rattle.records.specs.Address.{Field, state, root-next, root-prior, own_key, body, key, prior, next, first, last, Address, address, offset_of, size_of, HasField, IsAddress, address_at, address_size}
 use Rattle.records.specs.FieldPlaces.{field-inside, fields-apart}
 
--- an address by its three parts, and what tells two addresses apart
-abbrev pub address : ℕ → ℕ → Field → Address
-address n r f = record { set = n; at = r; field = f }
-
+-- what tells two addresses apart
 abbrev pub other_set : (n m r q : ℕ) (f g : Field) → n ≢ m → address n r f ≢ address m q g
 other_set n m r q f g d e = d (ap (λ (a : Address). a.set) e)
 

@@ -14,16 +14,8 @@ use Rattle.schema.specs.Decode.{entry_of, set_count}
 use Rattle.schema.specs.Place.{InSet, place_of}
 use Rattle.schema.specs.Guarantee.{SchemaOk}
 use Rattle.records.specs.Records.{state_of}
-use Rattle.records.specs.Address.{state, Address, IsAddress, address_at, address_size, get_run, get_word, put_run, put_word}
-use Rattle.records.specs.AddressLaws.{address, address-base, address-off_checks, addresses_apart}
-
--- an address of a word: a pointer's
-abbrev pub WordField : Schema → Address → Type 0
-WordField t a = IsAddress t a × (address_size t a ≡ 4)
-
--- the run fills the address
-abbrev pub Fills : Schema → Address → List ℕ → Type 0
-Fills t a ys = length ys ≡ address_size t a
+use Rattle.records.specs.Address.{state, Address, IsAddress, address_at, address_size, get_run, get_word, put_run, put_word, address, WordField, Fills}
+use Rattle.records.specs.AddressLaws.{address-base, address-off_checks, addresses_apart}
 
 -- ---- the length is kept
 

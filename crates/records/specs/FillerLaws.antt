@@ -17,10 +17,9 @@ use Rattle.schema.specs.Guarantee.{SchemaOk}
 use Rattle.schema.specs.PlaceLaws.{order?, div_mono, place_in_block}
 use Rattle.schema.specs.LayoutLaws.{rounded}
 use Rattle.schema.specs.GuaranteeLaws.{lies}
-use Rattle.records.specs.Address.{Field, state, Address, offset_of, size_of, HasField, IsAddress, address_at, address_size, put_run}
+use Rattle.records.specs.Address.{Field, state, Address, offset_of, size_of, HasField, IsAddress, address_at, address_size, put_run, Fills}
 use Rattle.records.specs.FieldPlaces.{record_least, field-starts}
 use Rattle.records.specs.AddressLaws.{Inside, inside-off-records, inside-off_checks, address-inside}
-use Rattle.records.specs.FieldLaws.{Fills}
 use Rattle.records.specs.WholeRecords.{put_record, IsWhole}
 
 -- ---- fillers: "state byte (1 live), three zeros"

@@ -7,6 +7,7 @@ pub mod FieldPlaces
 pub mod AddressLaws
 pub mod FieldLaws
 pub mod WholeRecords
+pub mod WholeLaws
 pub mod FillerLaws
 pub mod RecordLaws
 pub mod KindLaws

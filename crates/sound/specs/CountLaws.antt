@@ -18,7 +18,7 @@ use Rattle.sound.specs.Sound.{each_record, records_with, path_list, variable_pat
 use Rattle.sound.specs.Linear.{Ride, path_ride, ride_ends, points_on, live_count, path_in_place}
 use Rattle.sound.specs.SoundLaws.{each_record-at}
 use Rattle.sound.specs.ListLaws.{where_holds, holds_where, each_record-all, records_with_in, in_records_with, nodup-records_with, length-records_with}
-use Rattle.sound.specs.KeyLaws.{Live, MasterSet}
+use Rattle.sound.specs.Sets.{Live, MasterSet}
 use Rattle.sound.specs.RideLaws.{PointOf, IsChainOf, chain-nodup, ride-is, chain_rides, rides_chain}
 use Rattle.sound.specs.PathLaws.{PathSet, path_set_says, path_set_holds, point-live, live-point}
 

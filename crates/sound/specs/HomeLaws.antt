@@ -22,7 +22,7 @@ use Rattle.sound.specs.Sound.{within, same_records, follow, is_chain, masters_of
 use Rattle.sound.specs.Linear.{found_at}
 use Rattle.sound.specs.SoundLaws.{Linked, chain-linked}
 use Rattle.sound.specs.ListLaws.{in_set_test, within_in, in_within, records_with_in, in_records_with, linked-chain}
-use Rattle.sound.specs.KeyLaws.{Live}
+use Rattle.sound.specs.Sets.{Live}
 
 -- ---- the search
 

@@ -15,17 +15,9 @@ use Rattle.schema.specs.declared.Entry.{Entry}
 use Rattle.schema.specs.Place.{InSet}
 use Rattle.records.specs.Records.{is_live, master_key}
 use Rattle.sound.specs.Sound.{each_record, keys_distinct, home_sound, master_set_sound}
+use Rattle.sound.specs.Sets.{Live, MasterSet}
 use Rattle.sound.specs.SoundLaws.{each_record-at}
 use Rattle.sound.specs.ListLaws.{not_and, and_not, each_record-all}
-
--- the record r of set e is live
-abbrev pub Live : List ℕ → Entry → ℕ → Type 0
-Live b e r = InSet e r × (is_live b e r ≡ true)
-
-pub record MasterSet (b : List ℕ) (e : Entry) : Type 0 where
-  pub no_blank : (r : ℕ) → Live b e r → all_blank (master_key b e r) ≡ false
-  pub one : (q r : ℕ) → Live b e q → Live b e r → master_key b e q ≡ master_key b e r → q ≡ r
-  pub homes : (h : ℕ) → InSet e h → home_sound b e h ≡ true
 
 module _ (b : List ℕ) (e : Entry) where
   -- both are live and have one key

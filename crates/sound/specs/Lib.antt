@@ -1,5 +1,6 @@
 pub mod Linear
 pub mod Sound
+pub mod Sets
 pub mod SoundLaws
 pub mod ListLaws
 pub mod KeyLaws

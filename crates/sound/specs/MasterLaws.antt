@@ -24,7 +24,8 @@ use Rattle.sound.specs.Linear.{found_at, is_of_home, next_answers, prior_ends, m
 use Rattle.sound.specs.SoundLaws.{each_record-at, Linked, follow-length}
 use Rattle.sound.specs.ListLaws.{where_holds, holds_where, in_set_test, each_record-all, run_linked, linked-nodup, linked-next, follow-linked}
 use Rattle.octets.specs.TestLaws.{either, either_left, either-right}
-use Rattle.sound.specs.KeyLaws.{Live, MasterSet, master_set_says, master_set_holds}
+use Rattle.sound.specs.Sets.{Live, MasterSet}
+use Rattle.sound.specs.KeyLaws.{master_set_says, master_set_holds}
 use Rattle.sound.specs.HomeLaws.{FoundAt, found_at_says, found_at-holds, seek-follow, seek-linked, OfHome, HomeChain, home_sound_says, home_sound-holds}
 
 -- ---- one master in its place

@@ -17,7 +17,7 @@ use Rattle.chains.specs.Members.{In, all_in, in_all}
 use Rattle.sound.specs.Sound.{each_record, records_with, within, same_records, is_chain, last_of, path_list, path_sound, has_master, variable_path_sound}
 use Rattle.sound.specs.SoundLaws.{each_record-at, chain-linked}
 use Rattle.sound.specs.ListLaws.{where_holds, holds_where, within_in, in_within, each_record-all, each_record-some, records_with_in, in_records_with, linked-chain, last_of-is}
-use Rattle.sound.specs.KeyLaws.{Live}
+use Rattle.sound.specs.Sets.{Live}
 use Rattle.sound.specs.RideLaws.{PointOf, IsChainOf}
 
 -- ---- the chain of one master

@@ -10,7 +10,7 @@ use Rattle.schema.specs.declared.Entry.{Entry}
 use Rattle.schema.specs.declared.Schema.{Schema}
 use Rattle.calls.specs.Call.{Call}
 use Rattle.calls.specs.Scene.{scene_under}
-use Rattle.calls.specs.Answer.{answered}
+use Rattle.calls.specs.Outcome.{answered}
 use Rattle.ends.specs.AsksLaws.{asks_its-base, asks_its-name, asks_as}
 use Rattle.ends.specs.Ends.{Ends}
 use Rattle.ends.specs.EndsLaws.{refused-ends}

@@ -18,8 +18,8 @@ use Rattle.calls.specs.Call.{Call, one_of}
 use Rattle.calls.specs.Scene.{scene_under}
 use Rattle.calls.specs.Ladder.{general_rungs, place_rungs, form_rungs, ladder, refusal}
 use Rattle.calls.specs.Reply.{given, reference_after, area_after, stores_of, base_after}
-use Rattle.calls.specs.Outcome.{done, outcome_in, outcome}
-use Rattle.calls.specs.Answer.{answered, refusal-groups}
+use Rattle.calls.specs.Outcome.{done, outcome_in, outcome, answered}
+use Rattle.calls.specs.Answer.{refusal-groups}
 use Rattle.calls.specs.RestLaws.{rest-sinon, rest-formt}
 use Rattle.ends.specs.Ends.{Ends}
 use Rattle.ends.specs.EndsLaws.{refused-ends}

@@ -22,7 +22,7 @@ use Rattle.schema.specs.Naming.{set_named, link_of}
 use Rattle.schema.specs.NamingLaws.{set_named_lem}
 use Rattle.calls.specs.Ladder.{wrong_kind, place_rungs, form_rungs, seek_rungs, rest_rungs, refusal}
 use Rattle.calls.specs.Reply.{or_none, given, reference_after, stores_of}
-use Rattle.calls.specs.Answer.{answered}
+use Rattle.calls.specs.Outcome.{answered}
 use Rattle.calls.specs.RestLaws.{rest-rdnxt}
 use Rattle.forms.specs.Form.{form_status}
 use Rattle.forms.specs.FormLaws.{form-tests, form-link, form-on-unasked}
