@@ -1,16 +1,7 @@
-pub mod Answer
 pub mod Call
 pub mod Scene
 pub mod Ladder
 pub mod Reply
 pub mod Outcome
 pub mod Word
-pub mod Theorems
-pub mod WordLaws
 pub mod Opened
-pub mod OperationLaws
-pub mod LadderLaws
-pub mod OutcomeLaws
-pub mod BytesLaws
-pub mod RestLaws
-pub mod SceneLaws

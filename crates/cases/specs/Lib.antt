@@ -1,3 +1,2 @@
 pub mod Small
 pub mod Cases
-pub mod CaseLaws

@@ -10,7 +10,7 @@ use Rattle.octets.specs.BelowLaws.{all_below-turn, all_below-fails}
 use Rattle.schema.specs.declared.Entry.{Entry}
 use Rattle.schema.specs.Place.{place_of, record_of}
 use Rattle.records.specs.Records.{state_of}
-use Rattle.records.specs.RecordLaws.{state-part}
+use Rattle.records.proofs.RecordLaws.{state-part}
 use Rattle.sound.specs.Sound.{record_clean}
 
 -- ---- a loop that tests the numbers below n and leaves at the first that fails: a turn, the way out, the end. r is what the code was told.

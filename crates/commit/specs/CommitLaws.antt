@@ -11,7 +11,7 @@ use Rattle.schema.specs.declared.Entry.{Entry}
 use Rattle.schema.specs.Place.{LiesIn}
 use Rattle.plans.specs.declared.Plan.{Plan}
 use Rattle.plans.specs.Plan.{blocks_sealed, store_all, committed}
-use Rattle.plans.specs.PlanLaws.{length-store_all}
+use Rattle.plans.proofs.PlanLaws.{length-store_all}
 use Rattle.plans.specs.PlanOk.{PlanOk}
 use Rattle.plans.specs.Stores.{plan_stores}
 use Rattle.commit.specs.Touched.{distinct, block_within, AllWithin, all_sealed, seal_each, plan_blocks}

@@ -10,7 +10,7 @@ use Rattle.plans.specs.declared.Word.{Word}
 use Rattle.plans.specs.declared.Plan.{Plan}
 use Rattle.plans.specs.Plan.{Store, store_all}
 use Rattle.plans.specs.PlanOk.{AllFit, WordsOk}
-use Rattle.plans.specs.FitLaws.{word_inside}
+use Rattle.plans.proofs.FitLaws.{word_inside}
 use Rattle.plans.specs.Stores.{words_of, word_stores, head_stores, wiped_stores, plan_stores}
 use Rattle.commit.specs.Touched.{no_word}
 use Rattle.commit.specs.TouchedLaws.{count-words, words_step, words-done}

@@ -15,7 +15,7 @@ use Rattle.blocks.specs.declared.Check.{Check}
 use Rattle.blocks.specs.Blocks.{block_at, block_with, seal}
 use Rattle.schema.specs.declared.Entry.{Entry}
 use Rattle.schema.specs.Place.{InSet, LiesIn, block_of}
-use Rattle.schema.specs.PlaceLaws.{block_inside, block_of_place, block_of_record}
+use Rattle.schema.proofs.PlaceLaws.{block_inside, block_of_place, block_of_record}
 use Rattle.records.specs.declared.Link.{Link}
 use Rattle.plans.specs.declared.Word.{Word}
 use Rattle.plans.specs.declared.Head.{Head}
@@ -23,7 +23,7 @@ use Rattle.plans.specs.declared.Head.TheVariants.{Nothing, Body, Master, Variabl
 use Rattle.plans.specs.declared.Plan.{Plan}
 use Rattle.plans.specs.Plan.{Store, wipe_record, blocks_sealed, seal_all}
 use Rattle.plans.specs.PlanOk.{HeadOk, PlanOk, AllFit, WordsOk}
-use Rattle.plans.specs.FitLaws.{word_block}
+use Rattle.plans.proofs.FitLaws.{word_block}
 use Rattle.plans.specs.Stores.{words_of, word_stores, head_stores, wiped_stores, plan_stores}
 use Rattle.commit.specs.declared.Blocks.{Blocks}
 use Rattle.commit.specs.Touched.{no_word, no_block, bare_numbers, is_new, add_new, add_all, numbers_of, block_within, AllWithin, all_sealed, seal_each, store_blocks, word_blocks, head_blocks, wiped_blocks, plan_blocks}

@@ -1,4 +1,4 @@
-// Condition 3: every chain is the list it should be, after every sequence of calls. The files of specs/ in the order of reading:
+// Condition 3: every chain is the list it should be, after every sequence of calls. The files of specs/ and proofs/ in the order of reading:
 // the statement: Plain, Readings, Condition; beside it, a reading is one (ReadingLaws) and every path of a schema is a place (PlaceLaws);
 // lists show rows: Shown, ShownLaws;
 // the ladder: when it does not say DAMG (Calm), groups of operations (Operations), a ladder that is passed (Outcomes);

@@ -13,8 +13,8 @@ use Rattle.schema.specs.Fields.{edition_of, masters_of, variables_of, sets_of, c
 use Rattle.schema.specs.Rules.{is_path_slot, master_of_slot, form_rule}
 use Rattle.schema.specs.Formed.{Formed}
 use Rattle.schema.specs.Layout.{links_before, links_to, path_key_length, key_place, body_place, length_of, blocks_of, first_block, total_blocks, size_rule, keeps_rules}
-use Rattle.schema.specs.RuleFacts.{slot-entry}
-use Rattle.schema.specs.LayoutLaws.{key_above, body_master, body_variable, per-some}
+use Rattle.schema.proofs.RuleFacts.{slot-entry}
+use Rattle.schema.proofs.LayoutLaws.{key_above, body_master, body_variable, per-some}
 use Rattle.schema.specs.Decode.{empty_entry, entry_from, schema_of, decoded_of, full_entry}
 use Rattle.schema.specs.declared.Entry.{Entry}
 use Rattle.schema.specs.declared.Decoded.{Decoded}

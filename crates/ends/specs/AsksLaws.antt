@@ -16,7 +16,7 @@ use Rattle.schema.specs.declared.Schema.{Schema}
 use Rattle.masters.specs.Find.{find}
 use Rattle.calls.specs.Call.{Call, Outcome, call_of}
 use Rattle.calls.specs.Scene.{scene_under}
-use Rattle.calls.specs.SceneLaws.{found_here}
+use Rattle.calls.proofs.SceneLaws.{found_here}
 use Rattle.calls.specs.Ladder.{seek_rungs, rest_rungs, refusal}
 use Rattle.calls.specs.Outcome.{answered}
 use Rattle.ends.specs.Ends.{Ends}

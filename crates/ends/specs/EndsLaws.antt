@@ -19,7 +19,7 @@ use Rattle.calls.specs.Call.{Call, one_of}
 use Rattle.calls.specs.Scene.{Scene}
 use Rattle.calls.specs.Reply.{or_end, given, reference_after, area_after, stores_of, base_after}
 use Rattle.calls.specs.Outcome.{refused, done, answered}
-use Rattle.calls.specs.RestLaws.{storable}
+use Rattle.calls.proofs.RestLaws.{storable}
 use Rattle.ends.specs.Ends.{Ends, gave, settled}
 
 -- ---- refused

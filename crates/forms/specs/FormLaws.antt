@@ -17,7 +17,7 @@ use Rattle.schema.specs.Decode.{path_of}
 use Rattle.records.specs.Records.{key_on}
 use Rattle.records.specs.Areas.{is_master, area_length, area_master_key, area_key_on}
 use Rattle.calls.specs.Call.{Call, one_of, master_calls, variable_calls}
-use Rattle.calls.specs.OperationLaws.{each_operation, all_of}
+use Rattle.calls.proofs.OperationLaws.{each_operation, all_of}
 use Rattle.calls.specs.Scene.{Scene}
 use Rattle.schema.specs.Naming.{link_of}
 use Rattle.calls.specs.Ladder.{wrong_kind, blank_area_key, other_area_key, other_stored_key, form_rungs, refusal}

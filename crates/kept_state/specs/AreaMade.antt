@@ -10,7 +10,7 @@ use Rattle.schema.specs.declared.Entry.{Entry}
 use Rattle.schema.specs.Decode.{no_path, path_of}
 use Rattle.records.specs.Records.{body_of, key_on}
 use Rattle.records.specs.Areas.{is_master, area_key_place, area_keys, area_length, area_key_on, area_body, keys_on, area_of}
-use Rattle.records.specs.AreaLaws.{variable_keys, area-key-first, area-key-turn}
+use Rattle.records.proofs.AreaLaws.{variable_keys, area-key-first, area-key-turn}
 use Rattle.records.specs.Fields.{Fields}
 
 -- the keys, path by path

@@ -15,10 +15,10 @@ use Rattle.schema.specs.Place.{InSet, place_of, record_of}
 use Rattle.schema.specs.Guarantee.{SchemaOk}
 use Rattle.records.specs.Records.{state_of, is_live}
 use Rattle.records.specs.Address.{body, Address, IsAddress, get_run, get_word, address, WordField}
-use Rattle.records.specs.AddressLaws.{inside-off_checks}
-use Rattle.records.specs.FieldLaws.{put_run-word, get_word-put_word, get_word-put_run-other, get_word-seal, get_run-put_run, get_run-put_run-other, get_run-seal, state_of-put_run, state_of-seal}
-use Rattle.records.specs.WholeLaws.{get_word-put_record-other, get_run-put_record-other, state_of-put_record-other, record_of-put_record, record_of-put_record-other, record_of-put_run-other}
-use Rattle.plans.specs.PlanLaws.{length-committed}
+use Rattle.records.proofs.AddressLaws.{inside-off_checks}
+use Rattle.records.proofs.FieldLaws.{put_run-word, get_word-put_word, get_word-put_run-other, get_word-seal, get_run-put_run, get_run-put_run-other, get_run-seal, state_of-put_run, state_of-seal}
+use Rattle.records.proofs.WholeLaws.{get_word-put_record-other, get_run-put_record-other, state_of-put_record-other, record_of-put_record, record_of-put_record-other, record_of-put_run-other}
+use Rattle.plans.proofs.PlanLaws.{length-committed}
 use Rattle.kept_state.specs.Deeds.{Deed, point, whole, fill, stores_for, after, Valid, AllValid, Miss, Misses, Spared, AllSpared, Off, AllOff, Zeroed, AllZeroed}
 use Rattle.kept_state.specs.Holds.{deed_done, valid-at, kept, put}
 

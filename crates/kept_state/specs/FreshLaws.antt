@@ -10,16 +10,16 @@ use Rattle.blocks.specs.Blocks.{check_at, check_by}
 use Rattle.schema.specs.declared.Schema.{Schema}
 use Rattle.schema.specs.Decode.{entry_of, path_of, set_count}
 use Rattle.schema.specs.Place.{place_of, leftover_at, leftover_size}
-use Rattle.schema.specs.PlaceLaws.{place_in_block}
+use Rattle.schema.proofs.PlaceLaws.{place_in_block}
 use Rattle.schema.specs.Guarantee.{SchemaOk, IsPathOf}
-use Rattle.schema.specs.GuaranteeLaws.{lies}
+use Rattle.schema.proofs.GuaranteeLaws.{lies}
 use Rattle.records.specs.Records.{is_live}
-use Rattle.records.specs.FieldPlaces.{record_least}
+use Rattle.records.proofs.FieldPlaces.{record_least}
 use Rattle.plans.specs.Plan.{formatted}
-use Rattle.plans.specs.PlanLaws.{length-formatted, formatted-sealed, formatted_zero}
+use Rattle.plans.proofs.PlanLaws.{length-formatted, formatted-sealed, formatted_zero}
 use Rattle.sound.specs.Sound.{record_clean, leftover_clean, set_clean, home_list}
 use Rattle.sound.specs.Sets.{Live, MasterSet}
-use Rattle.sound.specs.HomeLaws.{HomeChain, home_sound-holds}
+use Rattle.sound.proofs.HomeLaws.{HomeChain, home_sound-holds}
 use Rattle.kept_state.specs.Rows.{World, PathRows, Represents}
 use Rattle.kept_state.specs.SettleLaws.{zero_run, clean-holds}
 

@@ -8,7 +8,7 @@ use Rattle.schema.specs.Place.{record_of}
 use Rattle.schema.specs.Guarantee.{SchemaOk}
 use Rattle.records.specs.Records.{is_live}
 use Rattle.records.specs.Address.{Field, HasField, offset_of, size_of, get_run, get_word, address}
-use Rattle.records.specs.WholeLaws.{get_run-record_of, get_word-record_of, state_of-record_of}
+use Rattle.records.proofs.WholeLaws.{get_run-record_of, get_word-record_of, state_of-record_of}
 
 module _ {t : Schema} (ok : SchemaOk t) (c : List ℕ) (k r : ℕ) (ys : List ℕ) (l : k < set_count t) (is : record_of c (entry_of t k) r ≡ ys) where
   pub live-is : is_live c (entry_of t k) r ≡ eqb (byte_at ys 0) 1

@@ -17,20 +17,20 @@ use Rattle.schema.specs.declared.Schema.{Schema}
 use Rattle.schema.specs.Decode.{entry_of, set_count}
 use Rattle.schema.specs.Place.{InSet, record_of, blocks_held, leftover_of}
 use Rattle.schema.specs.Guarantee.{SchemaOk}
-use Rattle.schema.specs.GuaranteeLaws.{lies}
+use Rattle.schema.proofs.GuaranteeLaws.{lies}
 use Rattle.records.specs.Records.{is_live}
 use Rattle.records.specs.Address.{body, Address, IsAddress, offset_of, address, Fills}
-use Rattle.records.specs.AddressLaws.{address-inside}
+use Rattle.records.proofs.AddressLaws.{address-inside}
 use Rattle.records.specs.WholeRecords.{IsWhole}
-use Rattle.records.specs.WholeLaws.{record_of-put_record, record_of-put_record-other}
-use Rattle.records.specs.FillerLaws.{filler_of, filler_of-record_of, filler_of-put_run, filler_of-seal, leftover_of-inside, leftover_of-put_record, leftover_of-seal}
+use Rattle.records.proofs.WholeLaws.{record_of-put_record, record_of-put_record-other}
+use Rattle.records.proofs.FillerLaws.{filler_of, filler_of-record_of, filler_of-put_run, filler_of-seal, leftover_of-inside, leftover_of-put_record, leftover_of-seal}
 use Rattle.plans.specs.Plan.{Store, store_run, store_block, blocks_sealed}
-use Rattle.plans.specs.PlanLaws.{committed-sealed}
+use Rattle.plans.proofs.PlanLaws.{committed-sealed}
 use Rattle.plans.specs.PlanOk.{Fits, AllFit}
-use Rattle.plans.specs.FitLaws.{run_fits, record_fits}
+use Rattle.plans.proofs.FitLaws.{run_fits, record_fits}
 use Rattle.sound.specs.Sound.{each_record, record_clean, leftover_clean, set_clean}
-use Rattle.sound.specs.SoundLaws.{each_record-at}
-use Rattle.sound.specs.ListLaws.{each_record-all}
+use Rattle.sound.proofs.SoundLaws.{each_record-at}
+use Rattle.sound.proofs.ListLaws.{each_record-all}
 use Rattle.kept_state.specs.Deeds.{Deed, point, whole, fill, store_of, stores_for, after, Valid, AllValid, Zeroed, AllZeroed, AllOff}
 use Rattle.kept_state.specs.DeedLaws.{record_missed}
 use Rattle.kept_state.specs.Holds.{deed_done, holds, kept}

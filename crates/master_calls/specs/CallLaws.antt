@@ -19,14 +19,14 @@ use Rattle.plans.specs.Plan.{Store, store_all, seal_all, committed}
 use Rattle.plans.specs.Stores.{plan_stores}
 use Rattle.plans.specs.PlanOk.{AreaOk}
 use Rattle.plans.specs.Made.{body_planned}
-use Rattle.plans.specs.BodyLaws.{body_stores}
+use Rattle.plans.proofs.BodyLaws.{body_stores}
 use Rattle.masters.specs.declared.Found.{Found}
 use Rattle.masters.specs.declared.Found.TheVariants.{At, Missing, Damaged}
 use Rattle.masters.specs.Find.{find, home_in}
 use Rattle.masters.specs.Root.{add_master_full, add_master_damaged, add_master_stores, del_master_damaged, del_master_stores}
 use Rattle.points.specs.Chains.{has_points}
 use Rattle.master_plans.specs.Status.{add_master_status, del_master_status}
-use Rattle.calls.specs.SceneLaws.{schema-here, operation-here}
+use Rattle.calls.proofs.SceneLaws.{schema-here, operation-here}
 use Rattle.calls.specs.Call.{Call}
 use Rattle.calls.specs.Scene.{Scene, scene_under}
 use Rattle.calls.specs.Reply.{master_in, home_of_key, given, reference_after, area_after, stores_of, base_after}
@@ -34,7 +34,7 @@ use Rattle.calls.specs.Outcome.{done, answered}
 use Rattle.calls.specs.Ladder.{rest_rungs, refusal}
 use Rattle.terms.specs.Status.{first_of}
 use Rattle.terms.specs.Laws.{two_first}
-use Rattle.calls.specs.RestLaws.{storable, rest-readm, rest-writm, rest-addm, rest-delm, rest_rqloc}
+use Rattle.calls.proofs.RestLaws.{storable, rest-readm, rest-writm, rest-addm, rest-delm, rest_rqloc}
 use Rattle.ends.specs.AsksLaws.{found_among, seek-passes}
 use Rattle.ends.specs.Ends.{Ends, gave, settled}
 use Rattle.ends.specs.EndsLaws.{gave-answers, settled-answers}

@@ -15,16 +15,16 @@ use Rattle.schema.specs.declared.Entry.{Entry}
 use Rattle.schema.specs.declared.Schema.{Schema}
 use Rattle.schema.specs.Decode.{entry_of, set_count}
 use Rattle.schema.specs.Guarantee.{SchemaOk}
-use Rattle.records.specs.KindLaws.{among-masters}
+use Rattle.records.proofs.KindLaws.{among-masters}
 use Rattle.records.specs.Areas.{is_master}
 use Rattle.masters.specs.declared.Found.{Found}
 use Rattle.masters.specs.declared.Found.TheVariants.{At, Missing, Damaged}
 use Rattle.masters.specs.Find.{find, is_at, is_missing, is_damaged}
-use Rattle.calls.specs.SceneLaws.{operation-here, number-here, edition-here, entry_here}
+use Rattle.calls.proofs.SceneLaws.{operation-here, number-here, edition-here, entry_here}
 use Rattle.calls.specs.Call.{Call, Outcome, call_of}
 use Rattle.calls.specs.Scene.{scene_under}
 use Rattle.schema.specs.Naming.{set_named, link_of}
-use Rattle.schema.specs.NamingLaws.{set_named_lem}
+use Rattle.schema.proofs.NamingLaws.{set_named_lem}
 use Rattle.calls.specs.Ladder.{wrong_kind, place_rungs, form_rungs, seek_rungs, rest_rungs, refusal}
 use Rattle.calls.specs.Outcome.{answered}
 use Rattle.forms.specs.Form.{form_status}

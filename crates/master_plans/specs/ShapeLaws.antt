@@ -12,7 +12,7 @@ use Rattle.plans.specs.declared.Word.{Word}
 use Rattle.plans.specs.declared.Plan.{Plan}
 use Rattle.plans.specs.Plan.{Store, store_word}
 use Rattle.plans.specs.PlanOk.{HeadOk, PlanOk, AllFit, WordOk, WordsOk}
-use Rattle.plans.specs.FitLaws.{run_fits, word_ok}
+use Rattle.plans.proofs.FitLaws.{run_fits, word_ok}
 use Rattle.plans.specs.Made.{with_wiped}
 use Rattle.plans.specs.Stores.{words_of, word_in, word_store, word_stores, head_stores, wiped_stores, plan_stores}
 use Rattle.master_plans.specs.Shape.{root_links, root_side, Shaped, OneLonger}

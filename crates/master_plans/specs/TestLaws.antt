@@ -7,7 +7,7 @@ use Rattle.schema.specs.Place.{InSet, in_set}
 use Rattle.records.specs.Records.{is_live}
 use Rattle.plans.specs.declared.Plan.{Plan}
 use Rattle.plans.specs.Plan.{Store}
-use Rattle.masters.specs.FindLaws.{in_set_true}
+use Rattle.masters.proofs.FindLaws.{in_set_true}
 use Rattle.masters.specs.Root.{bad_root}
 use Rattle.master_plans.specs.Shape.{StandsFor}
 

@@ -11,7 +11,7 @@ use Rattle.schema.specs.Place.{InSet, record_of}
 use Rattle.schema.specs.Guarantee.{SchemaOk}
 use Rattle.records.specs.Records.{is_live, master_key}
 use Rattle.records.specs.Address.{Field, root-next, root-prior, own_key, body, first, last, address}
-use Rattle.records.specs.AddressLaws.{field_kind, other_kind}
+use Rattle.records.proofs.AddressLaws.{field_kind, other_kind}
 use Rattle.plans.specs.Plan.{Store, store_run}
 use Rattle.chains.specs.Members.{All, In, Fresh, all_in, in?}
 use Rattle.sound.specs.Sound.{set_clean}

@@ -15,7 +15,7 @@ use Rattle.chains.specs.Members.{all_in, all_right}
 use Rattle.chains.specs.Segments.{last_or}
 use Rattle.sound.specs.Sound.{home_list}
 use Rattle.sound.specs.Sets.{Live, MasterSet}
-use Rattle.sound.specs.HomeLaws.{OfHome}
+use Rattle.sound.proofs.HomeLaws.{OfHome}
 use Rattle.master_steps.specs.LinkedLists.{none_first}
 use Rattle.master_steps.specs.RowLaws.{HomeRow, HomePlace, own-holds, none_list, no_zeros, rows_of, own_row, place_in_list}
 use Rattle.master_steps.specs.Neighbours.{stranger, Second, first_home, second}

@@ -16,7 +16,7 @@ use Rattle.schema.specs.declared.Schema.{Schema}
 use Rattle.schema.specs.Decode.{entry_of, path_of, set_count}
 use Rattle.schema.specs.Place.{InSet, record_of}
 use Rattle.records.specs.Records.{is_live, root_next, root_prior, first_on, last_on}
-use Rattle.records.specs.FieldPlaces.{record_least}
+use Rattle.records.proofs.FieldPlaces.{record_least}
 use Rattle.plans.specs.Plan.{store_record}
 use Rattle.masters.specs.Find.{own_home}
 use Rattle.masters.specs.Root.{synonym_moves, del_by_move, del_by_unlink, del_master_stores}

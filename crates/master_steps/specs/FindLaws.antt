@@ -8,15 +8,15 @@ use Rattle.schema.specs.declared.Entry.{Entry}
 use Rattle.records.specs.Records.{root_next, root_prior, master_key}
 use Rattle.masters.specs.declared.Found.TheVariants.{At, Missing}
 use Rattle.masters.specs.Find.{home_in, held_by_own, seek, find, is_at, is_missing, is_damaged, record_found}
-use Rattle.masters.specs.WalkLaws.{find-not-held, find-held}
+use Rattle.masters.proofs.WalkLaws.{find-not-held, find-held}
 use Rattle.terms.specs.Laws.{home_in_set}
 use Rattle.chains.specs.Members.{All, all_map}
 use Rattle.sound.specs.Sound.{home_list, has_master}
-use Rattle.sound.specs.ListLaws.{in_set_test}
+use Rattle.sound.proofs.ListLaws.{in_set_test}
 use Rattle.sound.specs.Sets.{Live, MasterSet}
-use Rattle.sound.specs.HomeLaws.{OfHome}
-use Rattle.sound.specs.MasterLaws.{sound_placed}
-use Rattle.sound.specs.PathLaws.{has_master_says, has_master-holds}
+use Rattle.sound.proofs.HomeLaws.{OfHome}
+use Rattle.sound.proofs.MasterLaws.{sound_placed}
+use Rattle.sound.proofs.PathLaws.{has_master_says, has_master-holds}
 use Rattle.master_steps.specs.LinkedLists.{Chained}
 use Rattle.master_steps.specs.RowLaws.{held-list, row-short, rows_of}
 

@@ -14,13 +14,13 @@ use Rattle.schema.specs.Guarantee.{IsPathOf}
 use Rattle.records.specs.declared.Link.{Link}
 use Rattle.records.specs.Records.{root_next, root_prior, master_key, first_on, last_on}
 use Rattle.records.specs.Address.{root-next, root-prior, own_key, first, last}
-use Rattle.records.specs.AddressLaws.{inside-base}
-use Rattle.records.specs.WholeLaws.{get_run-record_of, get_word-record_of, state_of-record_of}
-use Rattle.records.specs.FieldPlaces.{record_least}
-use Rattle.records.specs.FillerLaws.{filler_of-record_of}
-use Rattle.records.specs.KindLaws.{is_master_lem}
+use Rattle.records.proofs.AddressLaws.{inside-base}
+use Rattle.records.proofs.WholeLaws.{get_run-record_of, get_word-record_of, state_of-record_of}
+use Rattle.records.proofs.FieldPlaces.{record_least}
+use Rattle.records.proofs.FillerLaws.{filler_of-record_of}
+use Rattle.records.proofs.KindLaws.{is_master_lem}
 use Rattle.records.specs.Areas.{area_length, area_master_key, new_master}
-use Rattle.records.specs.NewLaws.{length-new_master, new-master-state, new-master-next, new-master-prior, new-master-key, new-master-link}
+use Rattle.records.proofs.NewLaws.{length-new_master, new-master-state, new-master-next, new-master-prior, new-master-key, new-master-link}
 use Rattle.sound.specs.Sets.{Live}
 use Rattle.kept_state.specs.HeldLaws.{live-is, run_is, word_is}
 use Rattle.kept_state.specs.SettleLaws.{filler_zero}

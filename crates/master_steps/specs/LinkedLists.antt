@@ -6,7 +6,7 @@ use Rattle.std.specs.Prelude.{ℕ, zero, suc, ◌≤◌, ◌≡◌, refl, ◌≢
 use Rattle.std.proofs.Common.{sym, ◌∙◌, inl, inr, ⊎_elim, arith}
 use Rattle.chains.specs.Members.{In, in_all, NoDup, in_left, in_right, in_cases, not-fresh, all_left, all_right, all_append}
 use Rattle.chains.specs.Segments.{NoZero, last_or, head_or, all_last, all_head, Seg, at_ends, headed, headed-at, chain-change}
-use Rattle.sound.specs.SoundLaws.{Linked}
+use Rattle.sound.proofs.SoundLaws.{Linked}
 
 -- ---- membership round a middle
 

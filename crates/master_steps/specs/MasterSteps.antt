@@ -12,7 +12,7 @@ use Rattle.schema.specs.Place.{InSet, record_of}
 use Rattle.schema.specs.Guarantee.{IsPathOf}
 use Rattle.records.specs.Records.{is_live, master_key}
 use Rattle.records.specs.Address.{Field, root-next, root-prior, own_key, body, key, prior, next, first, last, size_of, HasField, get_run, get_word, address}
-use Rattle.records.specs.KindLaws.{is_variable}
+use Rattle.records.proofs.KindLaws.{is_variable}
 use Rattle.records.specs.Areas.{area_of, area_keys, area_body}
 use Rattle.blocks.specs.Blocks.{check_by}
 use Rattle.plans.specs.Plan.{Store, store_run, blocks_sealed, committed}

@@ -11,7 +11,7 @@ use Rattle.chains.specs.Members.{All, all_map, all_both, all_left, all_right, al
 use Rattle.chains.specs.Segments.{last_or, head_or, all_last, all_head}
 use Rattle.sound.specs.Sound.{home_list}
 use Rattle.sound.specs.Sets.{Live, MasterSet}
-use Rattle.sound.specs.HomeLaws.{OfHome}
+use Rattle.sound.proofs.HomeLaws.{OfHome}
 use Rattle.master_steps.specs.LinkedLists.{Chained}
 use Rattle.master_steps.specs.RowLaws.{HomeRow, own-holds, held-list, no_zeros, home-nodup, tail-is, rows_of, own_row, place_in_list}
 

@@ -8,7 +8,7 @@ use Rattle.schema.specs.Place.{InSet}
 use Rattle.records.specs.Records.{is_live, root_next, root_prior}
 use Rattle.masters.specs.Find.{own_home, held_by_own}
 use Rattle.masters.specs.Root.{bad_root, add_master_damaged, synonym_moves, del_master_damaged}
-use Rattle.sound.specs.ListLaws.{in_set_test}
+use Rattle.sound.proofs.ListLaws.{in_set_test}
 use Rattle.sound.specs.Sets.{Live, MasterSet}
 use Rattle.master_steps.specs.Neighbours.{Side, stranger, neighbours_aside, first_home}
 

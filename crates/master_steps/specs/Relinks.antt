@@ -9,7 +9,7 @@ use Rattle.schema.specs.declared.Schema.{Schema}
 use Rattle.schema.specs.Decode.{entry_of}
 use Rattle.schema.specs.Place.{record_of}
 use Rattle.records.specs.Address.{Field, root-next, root-prior, get_word, address}
-use Rattle.records.specs.AddressLaws.{other_kind, other_record}
+use Rattle.records.proofs.AddressLaws.{other_kind, other_record}
 use Rattle.records.specs.WholeRecords.{Elsewhere}
 use Rattle.masters.specs.Root.{root_prior_side, root_next_side}
 use Rattle.chains.specs.Members.{All, Fresh, in_all, all_left, all_right, not-fresh}

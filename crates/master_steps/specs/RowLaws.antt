@@ -18,10 +18,10 @@ use Rattle.terms.specs.Laws.{home_in_set}
 use Rattle.chains.specs.Members.{All, In, NoDup, all_map, all_in, in_all, split_in, pigeonhole}
 use Rattle.chains.specs.Segments.{NoZero, last_or, head_or}
 use Rattle.sound.specs.Sound.{follow, home_list, home_sound}
-use Rattle.sound.specs.SoundLaws.{Linked}
-use Rattle.sound.specs.ListLaws.{linked-nodup, follow-linked}
+use Rattle.sound.proofs.SoundLaws.{Linked}
+use Rattle.sound.proofs.ListLaws.{linked-nodup, follow-linked}
 use Rattle.sound.specs.Sets.{Live, MasterSet}
-use Rattle.sound.specs.HomeLaws.{OfHome, HomeChain, home_sound_says, home_sound-holds}
+use Rattle.sound.proofs.HomeLaws.{OfHome, HomeChain, home_sound_says, home_sound-holds}
 use Rattle.kept_state.specs.Frames.{SameMasters}
 use Rattle.master_steps.specs.LinkedLists.{none_first, Chained, linked-chained, chained-linked, chained-right, chained_frame}
 

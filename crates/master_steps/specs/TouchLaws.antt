@@ -13,7 +13,7 @@ use Rattle.chains.specs.Members.{All, In, Fresh, NoDup, all_in, in_all, all_map,
 use Rattle.chains.specs.Segments.{last_or, head_or}
 use Rattle.sound.specs.Sound.{home_list}
 use Rattle.sound.specs.Sets.{Live, MasterSet}
-use Rattle.sound.specs.HomeLaws.{OfHome}
+use Rattle.sound.proofs.HomeLaws.{OfHome}
 use Rattle.master_steps.specs.LinkedLists.{in_other, middle-apart, not_last, not_first, Chained, chained-change}
 use Rattle.master_steps.specs.RowLaws.{HomeRow, HomeRows, no_zeros, home-nodup, rows-sound, rows_of, still-home, kept_row}
 

@@ -13,14 +13,14 @@ use Rattle.schema.specs.Place.{InSet}
 use Rattle.masters.specs.declared.Found.TheVariants.{At}
 use Rattle.points.specs.Chains.{read_damaged, bad_neighbour, uneven_ends}
 use Rattle.points.specs.SideLaws.{neighbour_ok}
-use Rattle.calls.specs.SceneLaws.{operation-here}
+use Rattle.calls.proofs.SceneLaws.{operation-here}
 use Rattle.calls.specs.Call.{Call, one_of}
 use Rattle.calls.specs.Scene.{Scene, scene_under}
 use Rattle.calls.specs.Reply.{master_in, or_end, given, reference_after, stores_of}
 use Rattle.schema.specs.Naming.{link_of}
 use Rattle.calls.specs.Ladder.{rest_rungs, refusal, is_link}
 use Rattle.calls.specs.Outcome.{answered}
-use Rattle.calls.specs.RestLaws.{rest-readv, rest-readr, rest_readd}
+use Rattle.calls.proofs.RestLaws.{rest-readv, rest-readr, rest_readd}
 use Rattle.ends.specs.AsksLaws.{found_among}
 use Rattle.ends.specs.Ends.{Ends, gave}
 use Rattle.ends.specs.EndsLaws.{gave-answers}

@@ -22,8 +22,8 @@ use Rattle.calls.specs.Call.{Call, one_of, adds}
 use Rattle.calls.specs.Scene.{Scene}
 use Rattle.calls.specs.Reply.{spot_of}
 use Rattle.calls.specs.Ladder.{Rung, added_on, own_on, added_rungs, own_rungs, final_rungs, rest_rungs, refusal}
-use Rattle.calls.specs.LadderLaws.{Passes, refusal-passed, passes-below}
-use Rattle.calls.specs.RestLaws.{storable}
+use Rattle.calls.proofs.LadderLaws.{Passes, refusal-passed, passes-below}
+use Rattle.calls.proofs.RestLaws.{storable}
 use Rattle.terms.specs.Laws.{first_of_assoc, one_first, two_first}
 
 -- the two tests of one path, "16, then 12", and the one status of its master's search; `named` where it is the named path

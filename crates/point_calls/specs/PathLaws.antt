@@ -21,15 +21,15 @@ use Rattle.schema.specs.declared.Schema.{Schema}
 use Rattle.schema.specs.Decode.{entry_of, path_of, set_count, masters_on}
 use Rattle.schema.specs.Place.{InSet, in_set}
 use Rattle.schema.specs.Guarantee.{SchemaOk}
-use Rattle.records.specs.KindLaws.{behind-masters}
+use Rattle.records.proofs.KindLaws.{behind-masters}
 use Rattle.records.specs.Fields.{Fields}
 use Rattle.records.specs.Areas.{is_master, area_length, area_key_on}
-use Rattle.masters.specs.FindLaws.{in_set_true}
-use Rattle.calls.specs.SceneLaws.{number-here, edition-here, entry_here, on-here, path_here}
+use Rattle.masters.proofs.FindLaws.{in_set_true}
+use Rattle.calls.proofs.SceneLaws.{number-here, edition-here, entry_here, on-here, path_here}
 use Rattle.calls.specs.Call.{Call, call_of}
 use Rattle.calls.specs.Scene.{scene_under}
 use Rattle.schema.specs.Naming.{set_named, path_name, path_named, link_of}
-use Rattle.schema.specs.NamingLaws.{set_named_lem, path_named_lem}
+use Rattle.schema.proofs.NamingLaws.{set_named_lem, path_named_lem}
 use Rattle.calls.specs.Ladder.{wrong_kind, blank_area_key, other_area_key, place_rungs, form_rungs, refusal}
 use Rattle.forms.specs.Form.{rungs_of, form_status}
 use Rattle.forms.specs.FormLaws.{form-tests, other_path}

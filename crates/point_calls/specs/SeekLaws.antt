@@ -19,7 +19,7 @@ use Rattle.masters.specs.declared.Found.{Found}
 use Rattle.masters.specs.declared.Found.TheVariants.{At, Missing, Damaged}
 use Rattle.masters.specs.Find.{find, is_missing, is_damaged, record_found}
 use Rattle.points.specs.Chains.{is_point_of}
-use Rattle.calls.specs.SceneLaws.{operation-here}
+use Rattle.calls.proofs.SceneLaws.{operation-here}
 use Rattle.calls.specs.Call.{Call, Outcome}
 use Rattle.calls.specs.Scene.{scene_under}
 use Rattle.calls.specs.Ladder.{seek_rungs, rest_rungs, refusal, is_link}

@@ -15,12 +15,12 @@ use Rattle.schema.specs.Place.{InSet}
 use Rattle.records.specs.Records.{key_on, prior_on}
 use Rattle.records.specs.Areas.{area_body, area_key_on}
 use Rattle.records.specs.InBase.{IsPathAmong, masters_kept, MastersOf}
-use Rattle.records.specs.InBaseLaws.{named-among}
+use Rattle.records.proofs.InBaseLaws.{named-among}
 use Rattle.plans.specs.declared.Planned.{Planned}
 use Rattle.blocks.specs.Blocks.{check_by}
 use Rattle.plans.specs.Plan.{Store, store_run}
 use Rattle.plans.specs.Stores.{plan_stores}
-use Rattle.plans.specs.BodyLaws.{body_stores}
+use Rattle.plans.proofs.BodyLaws.{body_stores}
 use Rattle.plans.specs.Made.{body_planned}
 use Rattle.masters.specs.declared.Found.TheVariants.{At}
 use Rattle.masters.specs.Find.{find}
@@ -28,14 +28,14 @@ use Rattle.points.specs.declared.Spot.{Spot}
 use Rattle.points.specs.declared.Spot.TheVariants.{Last, After, Before}
 use Rattle.points.specs.Points.{add_place, add_stores, del_stores}
 use Rattle.point_plans.specs.Rest.{add_status, del_status}
-use Rattle.calls.specs.SceneLaws.{schema-here, operation-here}
+use Rattle.calls.proofs.SceneLaws.{schema-here, operation-here}
 use Rattle.calls.specs.Call.{Call, one_of}
 use Rattle.calls.specs.Scene.{Scene, scene_under}
 use Rattle.calls.specs.Reply.{spot_of, new_record, or_link, given, reference_after, area_after, stores_of}
 use Rattle.calls.specs.Ladder.{rest_rungs, refusal, other_stored_key}
 use Rattle.calls.specs.Outcome.{answered}
 use Rattle.terms.specs.Status.{first_of}
-use Rattle.calls.specs.RestLaws.{storable, rest-writv}
+use Rattle.calls.proofs.RestLaws.{storable, rest-writv}
 use Rattle.ends.specs.Ends.{Ends, settled}
 use Rattle.ends.specs.EndsLaws.{settled-answers}
 use Rattle.ends.specs.Asks.{Asks, placed_outcome}

@@ -18,18 +18,18 @@ use Rattle.schema.specs.declared.Part.{Part}
 use Rattle.schema.specs.declared.Schema.{Schema}
 use Rattle.schema.specs.Decode.{path_of, masters_on}
 use Rattle.schema.specs.Place.{InSet, LiesIn, part_of}
-use Rattle.schema.specs.PlaceLaws.{place_inside}
+use Rattle.schema.proofs.PlaceLaws.{place_inside}
 use Rattle.records.specs.declared.Link.{Link}
 use Rattle.records.specs.Records.{last_on}
 use Rattle.records.specs.Areas.{no_link}
 use Rattle.plans.specs.declared.Word.{Word}
 use Rattle.plans.specs.Plan.{Store}
 use Rattle.plans.specs.PlanOk.{Fits, AllFit, WordOk, WordsOk}
-use Rattle.plans.specs.FitLaws.{run_fits, word_ok}
+use Rattle.plans.proofs.FitLaws.{run_fits, word_ok}
 use Rattle.plans.specs.Stores.{word_in, word_store, word_stores}
 use Rattle.masters.specs.declared.Found.TheVariants.{At}
 use Rattle.masters.specs.Find.{find, record_found}
-use Rattle.masters.specs.FindLaws.{find_at}
+use Rattle.masters.proofs.FindLaws.{find_at}
 use Rattle.points.specs.Chains.{prior_side, next_side}
 use Rattle.points.specs.Points.{master_on, damaged_on}
 use Rattle.point_plans.specs.Rest.{other_masters}

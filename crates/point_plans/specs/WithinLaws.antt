@@ -9,7 +9,7 @@ use Rattle.schema.specs.Place.{LiesIn, place_of, record_of}
 use Rattle.records.specs.Records.{key_on}
 use Rattle.records.specs.InBase.{PointsIn}
 use Rattle.records.specs.Areas.{is_master, area_key_place, area_length}
-use Rattle.records.specs.AreaLaws.{area-key-inside, variable_keys}
+use Rattle.records.proofs.AreaLaws.{area-key-inside, variable_keys}
 use Rattle.point_plans.specs.Paths.{key_at}
 use Rattle.point_plans.specs.Within.{OwnersIn, KeysIn}
 

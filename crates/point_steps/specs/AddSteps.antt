@@ -17,10 +17,10 @@ use Rattle.schema.specs.Guarantee.{IsPathOf}
 use Rattle.records.specs.declared.Link.{Link}
 use Rattle.records.specs.Records.{is_live, key_on}
 use Rattle.records.specs.Areas.{is_master, area_key_on, no_link, new_variable, area_of}
-use Rattle.records.specs.KindLaws.{is_variable}
+use Rattle.records.proofs.KindLaws.{is_variable}
 use Rattle.records.specs.Address.{body, key, prior, next}
 use Rattle.records.specs.Fields.{Fields}
-use Rattle.records.specs.NewLaws.{length-new_variable, new-variable-state, new-variable-key, new-variable-prior, new-variable-next, new-variable_body}
+use Rattle.records.proofs.NewLaws.{length-new_variable, new-variable-state, new-variable-key, new-variable-prior, new-variable-next, new-variable_body}
 use Rattle.blocks.specs.Blocks.{check_by}
 use Rattle.plans.specs.Plan.{Store, store_record, blocks_sealed, committed}
 use Rattle.points.specs.declared.Spot.{Spot}

@@ -11,8 +11,8 @@ use Rattle.octets.specs.TestLaws.{never_both}
 use Rattle.octets.specs.RunLaws.{all_zero-zeros, all_zero_eq, eq_same_bytes, ne_same_bytes}
 use Rattle.schema.specs.declared.Schema.{Schema}
 use Rattle.schema.specs.Decode.{entry_of}
-use Rattle.records.specs.KindLaws.{is_variable}
-use Rattle.records.specs.AreaLaws.{head_inside}
+use Rattle.records.proofs.KindLaws.{is_variable}
+use Rattle.records.proofs.AreaLaws.{head_inside}
 use Rattle.blocks.specs.Blocks.{check_by}
 use Rattle.plans.specs.Plan.{Store, wipe_record, blocks_sealed, committed}
 use Rattle.points.specs.Points.{del_stores}

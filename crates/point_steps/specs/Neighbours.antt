@@ -25,7 +25,7 @@ use Rattle.points.specs.PlaceLaws.{new_place_free}
 use Rattle.points.specs.Points.{find_on, master_on, spot_on, neighbours_at, add_master, add_link, add_place, add_damaged, own_key, own_master, own_link, del_damaged}
 use Rattle.chains.specs.Members.{In, Fresh, all_in, all_map, all_append, all_left, all_right, split_in, nodup-without}
 use Rattle.chains.specs.Segments.{NoZero, last_or, head_or, last_snoc, all_last, at_ends, at_node}
-use Rattle.sound.specs.ListLaws.{in_set_test}
+use Rattle.sound.proofs.ListLaws.{in_set_test}
 use Rattle.sound.specs.Sets.{Live, MasterSet}
 use Rattle.kept_state.specs.Rows.{World, Represents, next_node, prior_node, Mine, PathRows, put_after, put_before, inserted, without}
 use Rattle.kept_state.specs.Tests.{SpotOk, AddTests, DelTests}

@@ -13,7 +13,7 @@ use Rattle.schema.specs.Place.{InSet, record_of}
 use Rattle.schema.specs.Guarantee.{IsPathOf}
 use Rattle.records.specs.Records.{is_live}
 use Rattle.records.specs.Areas.{area_of}
-use Rattle.records.specs.KindLaws.{is_variable}
+use Rattle.records.proofs.KindLaws.{is_variable}
 use Rattle.records.specs.Address.{Field, root-next, root-prior, own_key, body, key, Address, IsAddress, get_word, get_run, address, WordField}
 use Rattle.records.specs.WholeRecords.{Elsewhere}
 use Rattle.sound.specs.Sound.{set_clean}

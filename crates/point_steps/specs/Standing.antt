@@ -13,17 +13,17 @@ use Rattle.schema.specs.declared.Schema.{Schema}
 use Rattle.schema.specs.Decode.{entry_of, path_of, set_count, masters_on}
 use Rattle.records.specs.Records.{master_key, first_on, last_on, key_on, prior_on, next_on}
 use Rattle.records.specs.Areas.{is_master}
-use Rattle.records.specs.KindLaws.{is_master_lem, is_variable}
+use Rattle.records.proofs.KindLaws.{is_master_lem, is_variable}
 use Rattle.masters.specs.Find.{is_at, record_found}
 use Rattle.points.specs.Points.{find_on}
 use Rattle.chains.specs.Members.{all_map}
 use Rattle.sound.specs.Sound.{checks_true, set_clean, master_set_sound, path_list, variable_path_sound, variable_set_sound, set_sound, sound}
-use Rattle.sound.specs.SoundLaws.{sound-sealed, sound-set}
-use Rattle.sound.specs.ListLaws.{linked-seg, seg-linked}
+use Rattle.sound.proofs.SoundLaws.{sound-sealed, sound-set}
+use Rattle.sound.proofs.ListLaws.{linked-seg, seg-linked}
 use Rattle.sound.specs.Sets.{Live, MasterSet}
-use Rattle.sound.specs.KeyLaws.{master_set_says, master_set_holds}
-use Rattle.sound.specs.RideLaws.{PointOf, IsChainOf, chain-is}
-use Rattle.sound.specs.PathLaws.{point-live, live-point, PathSet, path_set_says, path_set_holds}
+use Rattle.sound.proofs.KeyLaws.{master_set_says, master_set_holds}
+use Rattle.sound.proofs.RideLaws.{PointOf, IsChainOf, chain-is}
+use Rattle.sound.proofs.PathLaws.{point-live, live-point, PathSet, path_set_says, path_set_holds}
 use Rattle.kept_state.specs.Rows.{World, Mine, PathRows, Represents}
 use Rattle.master_steps.specs.FindLaws.{find-live, find_none, found_or_not}
 use Rattle.point_steps.specs.RowFacts.{path_numbered, masters_at, row_nozero}

@@ -9,9 +9,9 @@ use Rattle.schema.specs.Decode.{entry_of}
 use Rattle.schema.specs.Guarantee.{IsPathOf}
 use Rattle.records.specs.Records.{is_live}
 use Rattle.records.specs.Areas.{area_keys, area_body, area_of}
-use Rattle.records.specs.KindLaws.{is_variable}
+use Rattle.records.proofs.KindLaws.{is_variable}
 use Rattle.records.specs.Address.{body, key, address}
-use Rattle.records.specs.AddressLaws.{other_kind}
+use Rattle.records.proofs.AddressLaws.{other_kind}
 use Rattle.blocks.specs.Blocks.{check_by}
 use Rattle.plans.specs.Plan.{store_run, blocks_sealed, committed}
 use Rattle.kept_state.specs.Deeds.{Deed, fill, after, AllValid}

@@ -13,7 +13,7 @@ use Rattle.schema.specs.Decode.{entry_of, path_of}
 use Rattle.schema.specs.Place.{InSet, in_set}
 use Rattle.records.specs.Records.{is_live, key_on}
 use Rattle.records.specs.Address.{Address, address_at, next, prior, first, last}
-use Rattle.masters.specs.FindLaws.{in_set_true}
+use Rattle.masters.proofs.FindLaws.{in_set_true}
 use Rattle.points.specs.Chains.{is_point_of, bad_neighbour, prior_side, next_side}
 
 -- ---- the address that points forward from node n of a chain on path j of set i, and the one that points back

@@ -13,9 +13,9 @@ use Rattle.schema.specs.declared.Decoded.{Decoded}
 use Rattle.schema.specs.Layout.{keeps_rules}
 use Rattle.schema.specs.Decode.{schema_of, entry_of, set_count, decoded_of}
 use Rattle.schema.specs.Place.{LiesIn, place_of}
-use Rattle.schema.specs.PlaceLaws.{lies_most}
+use Rattle.schema.proofs.PlaceLaws.{lies_most}
 use Rattle.schema.specs.Guarantee.{SchemaOk}
-use Rattle.schema.specs.GuaranteeLaws.{guaranteed, lies}
+use Rattle.schema.proofs.GuaranteeLaws.{guaranteed, lies}
 use Rattle.probes.specs.Probes.{blocks_in, nowhere, place_in_set, place_under, place_in, sealed_alone, seal_alone, seal_answer}
 
 -- ---- a decoded schema

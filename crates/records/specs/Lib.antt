@@ -3,14 +3,4 @@ pub mod Areas
 pub mod Fields
 pub mod InBase
 pub mod Address
-pub mod FieldPlaces
-pub mod AddressLaws
-pub mod FieldLaws
 pub mod WholeRecords
-pub mod WholeLaws
-pub mod FillerLaws
-pub mod RecordLaws
-pub mod KindLaws
-pub mod AreaLaws
-pub mod NewLaws
-pub mod InBaseLaws

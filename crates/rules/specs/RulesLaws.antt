@@ -11,7 +11,7 @@ use Rattle.octets.specs.BelowLaws.{all_below-all}
 use Rattle.blocks.specs.Blocks.{check_by, is_sealed}
 use Rattle.schema.specs.Fields.{edition_of, sets_of}
 use Rattle.schema.specs.Rules.{block_rule, head_rule, clash, is_path_slot, master_of_slot, letters_of_slot, form_rule}
-use Rattle.schema.specs.FormFacts.{head_ok}
+use Rattle.schema.proofs.FormFacts.{head_ok}
 use Rattle.rules.specs.Parts.{apart, body_rule}
 
 -- ---- names for what functions answer

@@ -10,7 +10,7 @@ use Rattle.octets.specs.BelowLaws.{lowest_from-turn, lowest_from_hit, lowest_fro
 use Rattle.schema.specs.declared.Entry.{Entry}
 use Rattle.schema.specs.declared.Stretch.{Stretch}
 use Rattle.schema.specs.Place.{InSet, LiesIn, stretch_from, stretch_of}
-use Rattle.schema.specs.PlaceLaws.{few-held, stretch_along}
+use Rattle.schema.proofs.PlaceLaws.{few-held, stretch_along}
 use Rattle.records.specs.Records.{is_live}
 use Rattle.scan.specs.Scan.{lowest_free, is_full}
 use Rattle.scan.specs.Wanted.{is_wanted, wanted, wanted_in}

@@ -6,9 +6,3 @@ pub mod Naming
 pub mod Place
 pub mod Formed
 pub mod Guarantee
-pub mod PlaceLaws
-pub mod FormFacts
-pub mod RuleFacts
-pub mod LayoutLaws
-pub mod GuaranteeLaws
-pub mod NamingLaws

@@ -10,7 +10,7 @@ use Rattle.schema.specs.Place.{InSet, in_set}
 use Rattle.records.specs.Records.{is_live, root_next, root_prior, master_key}
 use Rattle.masters.specs.declared.Found.{Found}
 use Rattle.masters.specs.Find.{find, own_home}
-use Rattle.masters.specs.FindLaws.{in_set_true}
+use Rattle.masters.proofs.FindLaws.{in_set_true}
 use Rattle.sound.specs.Linear.{found_at, is_of_home, next_answers, prior_ends, master_in_place}
 use Rattle.signon.specs.Judged.{in_place_at}
 

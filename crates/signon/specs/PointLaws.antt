@@ -15,7 +15,7 @@ use Rattle.schema.specs.declared.Path.{Path}
 use Rattle.schema.specs.declared.Entry.{Entry}
 use Rattle.schema.specs.Place.{InSet, in_set, place_of}
 use Rattle.records.specs.Records.{is_live, master_key, first_on, last_on, key_on, prior_on, next_on}
-use Rattle.masters.specs.FindLaws.{in_set_true}
+use Rattle.masters.proofs.FindLaws.{in_set_true}
 use Rattle.points.specs.Chains.{is_point_of}
 use Rattle.sound.specs.Linear.{Ride, ride, path_ride, ride_ends, points_on, live_count, path_in_place}
 use Rattle.clean.specs.CleanLaws.{fails, ends}

@@ -1,12 +1,3 @@
 pub mod Linear
 pub mod Sound
 pub mod Sets
-pub mod SoundLaws
-pub mod ListLaws
-pub mod KeyLaws
-pub mod HomeLaws
-pub mod MasterLaws
-pub mod RideLaws
-pub mod PathLaws
-pub mod CountLaws
-pub mod LinearLaws

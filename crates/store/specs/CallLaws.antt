@@ -8,8 +8,8 @@ use Rattle.terms.specs.Operation.{operation_of}
 use Rattle.schema.specs.declared.Decoded.{Decoded}
 use Rattle.schema.specs.Decode.{schema_of, decoded_of}
 use Rattle.schema.specs.Layout.{keeps_rules}
-use Rattle.schema.specs.GuaranteeLaws.{decoded_ok}
-use Rattle.records.specs.AreaLaws.{decoded_fields}
+use Rattle.schema.proofs.GuaranteeLaws.{decoded_ok}
+use Rattle.records.proofs.AreaLaws.{decoded_fields}
 use Rattle.calls.specs.Call.{Call, call_of}
 use Rattle.calls.specs.Outcome.{outcome, IsOutcome}
 use Rattle.ends.specs.Ends.{Ends}

@@ -13,14 +13,14 @@ use Rattle.schema.specs.Layout.{keeps_rules}
 use Rattle.blocks.specs.Blocks.{check_by}
 use Rattle.plans.specs.Plan.{store_all, seal_all, committed, formatted}
 use Rattle.sound.specs.Sound.{sound}
-use Rattle.calls.specs.SceneLaws.{schema-here, operation-here}
+use Rattle.calls.proofs.SceneLaws.{schema-here, operation-here}
 use Rattle.calls.specs.Call.{Call, one_of}
 use Rattle.calls.specs.Scene.{scene_under}
 use Rattle.calls.specs.Ladder.{general_rungs, place_rungs, form_rungs, ladder, refusal}
 use Rattle.calls.specs.Reply.{given, reference_after, area_after, stores_of, base_after}
 use Rattle.calls.specs.Outcome.{done, outcome_in, outcome, answered}
-use Rattle.calls.specs.Answer.{refusal-groups}
-use Rattle.calls.specs.RestLaws.{rest-sinon, rest-formt}
+use Rattle.calls.proofs.Answer.{refusal-groups}
+use Rattle.calls.proofs.RestLaws.{rest-sinon, rest-formt}
 use Rattle.ends.specs.Ends.{Ends}
 use Rattle.ends.specs.EndsLaws.{refused-ends}
 use Rattle.ends.specs.Asks.{past_general}

@@ -15,15 +15,15 @@ use Rattle.schema.specs.declared.Schema.{Schema}
 use Rattle.schema.specs.Decode.{entry_of, set_count}
 use Rattle.records.specs.Areas.{area_length}
 use Rattle.scan.specs.Scan.{next_live}
-use Rattle.calls.specs.SceneLaws.{entry_here}
+use Rattle.calls.proofs.SceneLaws.{entry_here}
 use Rattle.calls.specs.Call.{Call, call_of}
 use Rattle.calls.specs.Scene.{Scene, scene_under}
 use Rattle.schema.specs.Naming.{set_named, link_of}
-use Rattle.schema.specs.NamingLaws.{set_named_lem}
+use Rattle.schema.proofs.NamingLaws.{set_named_lem}
 use Rattle.calls.specs.Ladder.{wrong_kind, place_rungs, form_rungs, seek_rungs, rest_rungs, refusal}
 use Rattle.calls.specs.Reply.{or_none, given, reference_after, stores_of}
 use Rattle.calls.specs.Outcome.{answered}
-use Rattle.calls.specs.RestLaws.{rest-rdnxt}
+use Rattle.calls.proofs.RestLaws.{rest-rdnxt}
 use Rattle.forms.specs.Form.{form_status}
 use Rattle.forms.specs.FormLaws.{form-tests, form-link, form-on-unasked}
 use Rattle.ends.specs.AsksLaws.{operation_letters, someone_asks}

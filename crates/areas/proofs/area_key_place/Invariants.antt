@@ -8,7 +8,7 @@ use Rattle.octets.specs.Below.{sum_below}
 use Rattle.schema.specs.declared.Path.{Path}
 use Rattle.schema.specs.Decode.{path_of}
 use Rattle.records.specs.Areas.{area_key_place}
-use Rattle.records.specs.AreaLaws.{area-key-turn}
+use Rattle.records.proofs.AreaLaws.{area-key-turn}
 use Rattle.areas.proofs.area_key_place.Given as goal
 
 abbrev pub invariant-loop-k : goal.invariant-loop-k

@@ -1,7 +1,7 @@
 -- `areas::area_length` meets its contract: the keys are no more than the places in front of the D bytes, so the sum fits. Assumes nothing.
 use native.Mathlib.Omega.{arith}
 use borrow.Author.Rules.{rules}
-use Rattle.records.specs.AreaLaws.{keys_inside}
+use Rattle.records.proofs.AreaLaws.{keys_inside}
 use Rattle.areas.proofs.area_length.Goals as goal
 
 pub overflow_add-result : goal.overflow_add-result

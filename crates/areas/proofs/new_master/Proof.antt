@@ -7,8 +7,8 @@ use lib.ListN.{length}
 use borrow.Author.Rules.{rules}
 use borrow.Author.Tests.{eq-eqb}
 use Rattle.records.specs.Areas.{is_master}
-use Rattle.records.specs.AreaLaws.{master_keys}
-use Rattle.records.specs.NewLaws.{master-made}
+use Rattle.records.proofs.AreaLaws.{master_keys}
+use Rattle.records.proofs.NewLaws.{master-made}
 use Rattle.areas.proofs.new_master.Statement.{statement}
 use Rattle.areas.proofs.new_master.Tie as tie
 

@@ -7,7 +7,7 @@ use lib.ListN.{length}
 use Rattle.octets.specs.Octets.{run}
 use Rattle.octets.specs.SpliceLaws.{length_run, splice-part}
 use Rattle.schema.specs.Place.{place_of}
-use Rattle.schema.specs.PlaceLaws.{place_inside}
+use Rattle.schema.proofs.PlaceLaws.{place_inside}
 use Rattle.records.specs.Areas.{area_keys, area_body}
 use borrow.Author.Rules.{rules}
 use Rattle.areas.proofs.put_body.Statement.{statement}

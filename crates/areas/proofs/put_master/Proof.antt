@@ -7,11 +7,11 @@ use lib.ListN.{length}
 use borrow.Author.Rules.{rules}
 use Rattle.octets.specs.SpliceLaws.{length_run, splice-part}
 use Rattle.schema.specs.Place.{place_of}
-use Rattle.schema.specs.PlaceLaws.{place_inside}
+use Rattle.schema.proofs.PlaceLaws.{place_inside}
 use borrow.Author.Tests.{eq-eqb}
 use mathlib.Core.Bool.{true}
 use Rattle.records.specs.Areas.{is_master, new_master}
-use Rattle.records.specs.NewLaws.{length-new_master}
+use Rattle.records.proofs.NewLaws.{length-new_master}
 use Rattle.areas.proofs.put_master.Statement.{statement}
 use Rattle.areas.proofs.put_master.Tie as tie
 

@@ -2,7 +2,7 @@
 use borrow.Author.Rules.{rules}
 use Rattle.octets.specs.Octets.{run}
 use Rattle.octets.specs.SpliceLaws.{length_run}
-use Rattle.records.specs.NewLaws.{path_made}
+use Rattle.records.proofs.NewLaws.{path_made}
 use Rattle.areas.proofs.put_path.Goals as goal
 
 pub returns : goal.returns

@@ -9,9 +9,9 @@ use Rattle.octets.specs.Octets.{splice}
 use Rattle.schema.specs.declared.Path.{Path}
 use Rattle.schema.specs.Decode.{path_of}
 use Rattle.records.specs.Areas.{area_key_place, new_paths}
-use Rattle.records.specs.AreaLaws.{area-key-first, area-key-turn, area-key-inside, path_place-first, path_place-turn, path_inside, variable_keys}
+use Rattle.records.proofs.AreaLaws.{area-key-first, area-key-turn, area-key-inside, path_place-first, path_place-turn, path_inside, variable_keys}
 use Rattle.records.specs.Fields.{path_place}
-use Rattle.records.specs.NewLaws.{paths-turn, paths_end}
+use Rattle.records.proofs.NewLaws.{paths-turn, paths_end}
 use Rattle.areas.proofs.put_paths.Statement.{statement}
 use Rattle.areas.proofs.put_paths.Tie as tie
 

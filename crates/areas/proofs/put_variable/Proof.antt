@@ -7,11 +7,11 @@ use lib.ListN.{length}
 use borrow.Author.Rules.{rules}
 use Rattle.octets.specs.SpliceLaws.{length_run, splice-part}
 use Rattle.schema.specs.Place.{place_of}
-use Rattle.schema.specs.PlaceLaws.{place_inside}
+use Rattle.schema.proofs.PlaceLaws.{place_inside}
 use borrow.Author.Tests.{ne_eqb}
 use mathlib.Core.Bool.{false}
 use Rattle.records.specs.Areas.{is_master, new_variable}
-use Rattle.records.specs.NewLaws.{length-new_variable}
+use Rattle.records.proofs.NewLaws.{length-new_variable}
 use Rattle.areas.proofs.put_variable.Statement.{statement}
 use Rattle.areas.proofs.put_variable.Tie as tie
 

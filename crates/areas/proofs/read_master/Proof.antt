@@ -11,8 +11,8 @@ use Rattle.octets.specs.Octets.{run}
 use Rattle.octets.specs.SpliceLaws.{length_run}
 use Rattle.schema.specs.Place.{place_of}
 use Rattle.records.specs.Areas.{is_master}
-use Rattle.records.specs.RecordLaws.{part-is, whole-inside}
-use Rattle.records.specs.AreaLaws.{master_keys, master-area}
+use Rattle.records.proofs.RecordLaws.{part-is, whole-inside}
+use Rattle.records.proofs.AreaLaws.{master_keys, master-area}
 use Rattle.areas.proofs.read_master.Statement.{statement}
 use Rattle.areas.proofs.read_master.Tie as tie
 

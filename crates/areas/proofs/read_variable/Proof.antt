@@ -13,8 +13,8 @@ use Rattle.schema.specs.declared.Entry.{Entry}
 use Rattle.schema.specs.Decode.{path_of, paths_of}
 use Rattle.schema.specs.Place.{place_of}
 use Rattle.records.specs.Areas.{area_key_place}
-use Rattle.records.specs.RecordLaws.{part-is, whole-inside}
-use Rattle.records.specs.AreaLaws.{keys_in, area-key-first, area-key-turn, area-key-inside, keys_inside, path_inside, variable_keys, keys_turn, keys_end, variable-area}
+use Rattle.records.proofs.RecordLaws.{part-is, whole-inside}
+use Rattle.records.proofs.AreaLaws.{keys_in, area-key-first, area-key-turn, area-key-inside, keys_inside, path_inside, variable_keys, keys_turn, keys_end, variable-area}
 use Rattle.areas.proofs.read_variable.Statement.{statement}
 use Rattle.areas.proofs.read_variable.Tie as tie
 

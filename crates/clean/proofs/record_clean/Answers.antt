@@ -2,7 +2,7 @@
 use mathlib.Core.Path.{◌≡◌, ap, ◌∙◌}
 use native.Mathlib.Omega.{arith}
 use lib.ListN.{length}
-use Rattle.schema.specs.PlaceLaws.{record_length}
+use Rattle.schema.proofs.PlaceLaws.{record_length}
 use Rattle.clean.specs.CleanLaws.{clean-live, clean_free}
 use borrow.Author.Rules.{rules}
 use Rattle.clean.proofs.record_clean.Goals as goal

@@ -3,7 +3,7 @@ use mathlib.Core.Path.{sym}
 use borrow.Author.Rules.{rules}
 use Rattle.octets.specs.SpliceLaws.{splice-run_id}
 use Rattle.schema.specs.Place.{place_of}
-use Rattle.schema.specs.PlaceLaws.{place_inside}
+use Rattle.schema.proofs.PlaceLaws.{place_inside}
 use Rattle.commit.proofs.move_into.Goals as goal
 
 pub returns-then-from-to : goal.returns-then-from-to

@@ -4,7 +4,7 @@ use mathlib.Core.Bool.{true}
 use native.Mathlib.Omega.{arith}
 use Rattle.octets.specs.Octets.{all_blank}
 use borrow.Author.Tests.{eq-eqb, ne_eqb, not-true, not-false}
-use Rattle.records.specs.AreaLaws.{master_keys}
+use Rattle.records.proofs.AreaLaws.{master_keys}
 use Rattle.calls.specs.Ladder.{blank_area_key}
 use Rattle.forms.specs.FormLaws.{not-asked, is_asked, blank_master}
 use borrow.Author.Rules.{rules}

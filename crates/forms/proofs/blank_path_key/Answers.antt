@@ -10,7 +10,7 @@ use Rattle.schema.specs.declared.Path.{Path}
 use Rattle.schema.specs.declared.Entry.{Entry}
 use Rattle.schema.specs.Decode.{path_of}
 use Rattle.records.specs.Areas.{area_key_place, area_key_on}
-use Rattle.records.specs.AreaLaws.{area-key-first, area-key-turn, area-key-inside, variable_keys}
+use Rattle.records.proofs.AreaLaws.{area-key-first, area-key-turn, area-key-inside, variable_keys}
 use Rattle.forms.specs.FormLaws.{not_blank, blank_found, blank_none}
 use borrow.Author.Rules.{rules}
 use Rattle.forms.proofs.blank_path_key.Goals as goal

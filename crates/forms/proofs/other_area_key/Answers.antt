@@ -7,7 +7,7 @@ use borrow.Author.Tests.{eq-eqb, ne_eqb, not-true, not-false}
 use Rattle.terms.specs.Terms.{key_of}
 use Rattle.schema.specs.declared.Path.{Path}
 use Rattle.schema.specs.Decode.{path_of}
-use Rattle.records.specs.AreaLaws.{master_keys, variable_keys, area-key-inside}
+use Rattle.records.proofs.AreaLaws.{master_keys, variable_keys, area-key-inside}
 use Rattle.calls.specs.Ladder.{other_area_key}
 use Rattle.forms.specs.FormLaws.{not-asked, is_asked, other_master-key, other_path}
 use borrow.Author.Rules.{rules}

@@ -14,8 +14,8 @@ use Rattle.schema.specs.declared.Entry.{Entry}
 use Rattle.schema.specs.Decode.{path_of}
 use Rattle.schema.specs.Place.{place_of}
 use Rattle.records.specs.Areas.{area_key_place, area_key_on}
-use Rattle.records.specs.RecordLaws.{part-is, whole-inside}
-use Rattle.records.specs.AreaLaws.{area-key-first, area-key-turn, area-key-inside, variable_keys, keys_inside, path_inside}
+use Rattle.records.proofs.RecordLaws.{part-is, whole-inside}
+use Rattle.records.proofs.AreaLaws.{area-key-first, area-key-turn, area-key-inside, variable_keys, keys_inside, path_inside}
 use Rattle.forms.specs.FormLaws.{same_stored, other_found, other_none}
 use borrow.Author.Rules.{rules}
 use Rattle.forms.proofs.other_stored_key.Invariants.{same_in}

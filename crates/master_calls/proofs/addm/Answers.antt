@@ -1,8 +1,8 @@
 use mathlib.Core.Path.{sym, ◌∙◌}
 use borrow.Author.Rules.{rules}
-use Rattle.records.specs.InBaseLaws.{master_in_lem}
+use Rattle.records.proofs.InBaseLaws.{master_in_lem}
 use Rattle.terms.specs.Laws.{home_in_set}
-use Rattle.masters.specs.WalkLaws.{synonym_last}
+use Rattle.masters.proofs.WalkLaws.{synonym_last}
 use Rattle.masters.specs.declared.Found.TheVariants.{At, Missing, Damaged}
 use Rattle.master_calls.specs.CallLaws.{told-found, told-home, any_head, add-by_damage, by_presence, addm-ends}
 use Rattle.master_calls.proofs.addm.Goals as goal

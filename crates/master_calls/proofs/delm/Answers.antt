@@ -2,10 +2,10 @@ use mathlib.Core.Path.{sym, ◌∙◌}
 use borrow.Author.Rules.{rules}
 use lib.ListN.{length}
 use Rattle.records.specs.InBase.{MasterIn}
-use Rattle.records.specs.InBaseLaws.{master_in_lem}
+use Rattle.records.proofs.InBaseLaws.{master_in_lem}
 use Rattle.terms.specs.Laws.{home_in_set}
 use Rattle.masters.specs.declared.Found.TheVariants.{At, Missing, Damaged}
-use Rattle.masters.specs.FindLaws.{find_at}
+use Rattle.masters.proofs.FindLaws.{find_at}
 use Rattle.master_calls.specs.CallLaws.{told-found, told-home, del_by_damage, del_by_absence, delm-ends}
 use Rattle.master_calls.proofs.delm.Goals as goal
 

@@ -1,8 +1,8 @@
 use mathlib.Core.Path.{sym, ◌∙◌}
 use borrow.Author.Rules.{rules}
-use Rattle.records.specs.InBaseLaws.{master_in_lem}
+use Rattle.records.proofs.InBaseLaws.{master_in_lem}
 use Rattle.masters.specs.declared.Found.TheVariants.{At, Missing, Damaged}
-use Rattle.masters.specs.FindLaws.{find_at}
+use Rattle.masters.proofs.FindLaws.{find_at}
 use Rattle.master_calls.specs.MasterLaws.{readm-call}
 use Rattle.master_calls.specs.CallLaws.{told-found, by_damage, by_absence, readm-ends}
 use Rattle.master_calls.proofs.readm.Goals as goal

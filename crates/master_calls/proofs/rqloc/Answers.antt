@@ -1,6 +1,6 @@
 use mathlib.Core.Path.{ap, ◌∙◌}
 use borrow.Author.Rules.{rules}
-use Rattle.records.specs.InBaseLaws.{master_in_lem}
+use Rattle.records.proofs.InBaseLaws.{master_in_lem}
 use Rattle.master_calls.specs.CallLaws.{told-home, rqloc_ends}
 use Rattle.master_calls.proofs.rqloc.Goals as goal
 

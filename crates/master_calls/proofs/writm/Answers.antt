@@ -1,9 +1,9 @@
 use mathlib.Core.Path.{sym, ◌∙◌}
 use borrow.Author.Rules.{rules}
-use Rattle.records.specs.InBaseLaws.{master_in_lem}
-use Rattle.plans.specs.BodyLaws.{body_ok}
+use Rattle.records.proofs.InBaseLaws.{master_in_lem}
+use Rattle.plans.proofs.BodyLaws.{body_ok}
 use Rattle.masters.specs.declared.Found.TheVariants.{At, Missing, Damaged}
-use Rattle.masters.specs.FindLaws.{find_at}
+use Rattle.masters.proofs.FindLaws.{find_at}
 use Rattle.master_calls.specs.MasterLaws.{writm-call}
 use Rattle.master_calls.specs.CallLaws.{told-found, by_damage, by_absence, writm-ends}
 use Rattle.master_calls.proofs.writm.Goals as goal

@@ -1,9 +1,9 @@
 -- `master_plans::add_beside` meets its contract: whose home it is decides. Assumes nothing.
 use mathlib.Core.Path.{refl, sym, ◌∙◌}
-use Rattle.schema.specs.PlaceLaws.{lies_most}
+use Rattle.schema.proofs.PlaceLaws.{lies_most}
 use Rattle.master_plans.specs.TestLaws.{stands_as}
 use Rattle.master_plans.specs.AddLaws.{synonym_stands, beside-own, beside-stranger}
-use Rattle.plans.specs.MadeLaws.{none-refused}
+use Rattle.plans.proofs.MadeLaws.{none-refused}
 use borrow.Author.Rules.{rules}
 use Rattle.master_plans.proofs.add_beside.Goals as goal
 

@@ -3,9 +3,9 @@ use mathlib.Core.Path.{◌≡◌, refl, ◌∙◌}
 use mathlib.Core.Bool.{Bool, ◌||◌}
 use lib.Dec.{eqb}
 use Rattle.master_plans.specs.Shape.{stranger_damaged}
-use Rattle.schema.specs.PlaceLaws.{lies_most}
+use Rattle.schema.proofs.PlaceLaws.{lies_most}
 use Rattle.master_plans.specs.AddLaws.{stranger-tests, stranger_near, stranger-stands}
-use Rattle.plans.specs.MadeLaws.{refused-status, refused_none, none-refused}
+use Rattle.plans.proofs.MadeLaws.{refused-status, refused_none, none-refused}
 use Rattle.terms.specs.Laws.{refused-done}
 use native.Mathlib.Omega.{arith}
 use borrow.Author.Rules.{rules}

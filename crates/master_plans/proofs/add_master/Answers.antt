@@ -8,7 +8,7 @@ use Rattle.records.specs.Records.{is_live}
 use Rattle.scan.specs.Scan.{lowest_free}
 use Rattle.master_plans.specs.TestLaws.{stands_as}
 use Rattle.master_plans.specs.AddLaws.{home-stands, add-home-status, add-home-stores, add-full, add-beside-status, add-beside-stores, free_in, free_apart}
-use Rattle.plans.specs.MadeLaws.{refused-status, refused_none, none-refused}
+use Rattle.plans.proofs.MadeLaws.{refused-status, refused_none, none-refused}
 use Rattle.terms.specs.Laws.{refused-done}
 use borrow.Author.Rules.{rules}
 use Rattle.master_plans.proofs.add_master.Goals as goal

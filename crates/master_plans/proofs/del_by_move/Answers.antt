@@ -3,10 +3,10 @@ use mathlib.Core.Path.{◌≡◌, refl, ◌∙◌}
 use mathlib.Core.Bool.{Bool}
 use Rattle.records.specs.Records.{root_next}
 use Rattle.masters.specs.Root.{bad_root}
-use Rattle.schema.specs.PlaceLaws.{lies_most}
+use Rattle.schema.proofs.PlaceLaws.{lies_most}
 use Rattle.master_plans.specs.TestLaws.{not_bad}
 use Rattle.master_plans.specs.DelLaws.{move_stands}
-use Rattle.plans.specs.MadeLaws.{refused-status, refused_none, none-refused}
+use Rattle.plans.proofs.MadeLaws.{refused-status, refused_none, none-refused}
 use Rattle.terms.specs.Laws.{refused-done}
 use native.Mathlib.Omega.{arith}
 use borrow.Author.Rules.{rules}

@@ -1,9 +1,9 @@
 -- `master_plans::del_master` meets its contract: 14 comes first, then the final 16. Assumes nothing.
 use mathlib.Core.Path.{sym, ◌∙◌}
 use native.Mathlib.Omega.{arith}
-use Rattle.schema.specs.GuaranteeLaws.{lies}
+use Rattle.schema.proofs.GuaranteeLaws.{lies}
 use Rattle.master_plans.specs.DelLaws.{del_points, del_no_points}
-use Rattle.plans.specs.MadeLaws.{refused-status, refused_none}
+use Rattle.plans.proofs.MadeLaws.{refused-status, refused_none}
 use Rattle.terms.specs.Laws.{refused-done}
 use borrow.Author.Rules.{rules}
 use Rattle.master_plans.proofs.del_master.Goals as goal

@@ -4,10 +4,10 @@ use mathlib.Core.Bool.{Bool, not, ◌&&◌, ◌||◌}
 use lib.Dec.{eqb}
 use Rattle.masters.specs.Root.{synonym_moves}
 use Rattle.master_plans.specs.Shape.{neighbours_damaged}
-use Rattle.schema.specs.PlaceLaws.{lies_most}
+use Rattle.schema.proofs.PlaceLaws.{lies_most}
 use Rattle.master_plans.specs.TestLaws.{stands_as}
 use Rattle.master_plans.specs.DelLaws.{neighbours_tested, move_test, del_damaged_lem, del_near, move_in, move_damaged, unlink-sound, move_stores, unlink-stores, unlink-stands}
-use Rattle.plans.specs.MadeLaws.{refused-status, refused_none, none-refused}
+use Rattle.plans.proofs.MadeLaws.{refused-status, refused_none, none-refused}
 use Rattle.terms.specs.Laws.{refused-done}
 use native.Mathlib.Omega.{arith}
 use borrow.Author.Rules.{rules}

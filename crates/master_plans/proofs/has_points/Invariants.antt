@@ -6,7 +6,7 @@ use native.Mathlib.Omega.{arith}
 use Rattle.octets.specs.Below.{all_below}
 use Rattle.octets.specs.BelowLaws.{joined, joined-all}
 use Rattle.schema.specs.Decode.{entry_of, set_count}
-use Rattle.schema.specs.GuaranteeLaws.{lies}
+use Rattle.schema.proofs.GuaranteeLaws.{lies}
 use Rattle.master_plans.specs.Shape.{empty_in}
 use Rattle.master_plans.specs.PointLaws.{paths-few, path_link-inside, points-are}
 use borrow.Author.Rules.{rules}

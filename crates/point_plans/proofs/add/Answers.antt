@@ -3,7 +3,7 @@ use Prim.Native.Nat.{ℕ, ◌<◌}
 use mathlib.Core.Path.{◌≡◌, refl, sym, ap, ◌∙◌}
 use mathlib.Core.List.{List}
 use lib.ListN.{length, get_or, take}
-use Rattle.plans.specs.MadeLaws.{refused-status, refused_none}
+use Rattle.plans.proofs.MadeLaws.{refused-status, refused_none}
 use borrow.Author.Tests.{ne_eqb}
 use Rattle.octets.specs.Octets.{run}
 use Rattle.octets.specs.Below.{upto}

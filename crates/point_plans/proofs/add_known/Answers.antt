@@ -12,9 +12,9 @@ use Rattle.points.specs.PlaceLaws.{new_place-full}
 use Rattle.point_plans.specs.Paths.{damaged, link_at, new_links, place_at}
 use Rattle.point_plans.specs.PathLaws.{filled_at}
 use Rattle.point_plans.specs.WithinLaws.{owners_most}
-use Rattle.records.specs.InBaseLaws.{points_most}
+use Rattle.records.proofs.InBaseLaws.{points_most}
 use Rattle.point_plans.specs.DamageLaws.{damaged-taken, links_in}
-use Rattle.plans.specs.MadeLaws.{refused-status, refused_none, none-refused}
+use Rattle.plans.proofs.MadeLaws.{refused-status, refused_none, none-refused}
 use Rattle.terms.specs.Laws.{refused-done}
 use Rattle.point_plans.specs.PlanLaws.{linked-same}
 use Rattle.point_plans.proofs.add_known.Goals as goal

@@ -4,7 +4,7 @@ use mathlib.Core.Path.{◌≡◌, refl, sym, ap, ◌∙◌}
 use mathlib.Core.Bool.{cond}
 use mathlib.Core.List.{List}
 use lib.ListN.{length, get_or, take}
-use Rattle.plans.specs.MadeLaws.{refused-status, refused_none}
+use Rattle.plans.proofs.MadeLaws.{refused-status, refused_none}
 use borrow.Author.Tests.{ne_eqb}
 use Rattle.octets.specs.Below.{upto}
 use Rattle.terms.specs.Laws.{status-number-one}
@@ -17,7 +17,7 @@ use Rattle.schema.specs.declared.Part.{Part}
 use Rattle.schema.specs.declared.Schema.{Schema}
 use Rattle.schema.specs.Decode.{path_of, masters_on}
 use Rattle.schema.specs.Place.{InSet, record_of}
-use Rattle.schema.specs.PlaceLaws.{record_length}
+use Rattle.schema.proofs.PlaceLaws.{record_length}
 use Rattle.records.specs.Records.{key_on}
 use Rattle.records.specs.InBase.{masters_kept, MastersOf, PointsIn, PathsIn}
 use Rattle.masters.specs.declared.Found.TheVariants.{At}

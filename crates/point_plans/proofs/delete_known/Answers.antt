@@ -3,9 +3,9 @@ use mathlib.Core.Path.{◌≡◌, refl, sym, ap, ◌∙◌}
 use native.Mathlib.Omega.{arith}
 use Rattle.point_plans.specs.Paths.{damaged, own_links}
 use Rattle.point_plans.specs.WithinLaws.{owners_most}
-use Rattle.records.specs.InBaseLaws.{points_most}
+use Rattle.records.proofs.InBaseLaws.{points_most}
 use Rattle.point_plans.specs.DamageLaws.{damaged-taken, links_in}
-use Rattle.plans.specs.MadeLaws.{refused-status, refused_none, none-refused}
+use Rattle.plans.proofs.MadeLaws.{refused-status, refused_none, none-refused}
 use Rattle.terms.specs.Laws.{refused-done}
 use Rattle.point_plans.specs.PlanLaws.{unlinked-same}
 use Rattle.point_plans.proofs.delete_known.Goals as goal

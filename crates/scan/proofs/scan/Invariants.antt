@@ -8,7 +8,7 @@ use Rattle.octets.specs.SpliceLaws.{length_run}
 use Rattle.octets.specs.Below.{lowest_from}
 use Rattle.octets.specs.BelowLaws.{lowest_from_end}
 use Rattle.schema.specs.Place.{stretch_from}
-use Rattle.schema.specs.PlaceLaws.{some-held, few-held, stretch_inside, stretch_next}
+use Rattle.schema.proofs.PlaceLaws.{some-held, few-held, stretch_inside, stretch_next}
 use Rattle.scan.specs.Wanted.{wanted}
 use Rattle.scan.specs.ScanLaws.{scan_hit, scan_miss}
 use borrow.Author.Rules.{rules}

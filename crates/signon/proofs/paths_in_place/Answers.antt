@@ -7,7 +7,7 @@ use Rattle.sound.specs.Linear.{paths_in_place}
 use Rattle.clean.specs.CleanLaws.{passes, fails, ends}
 use Rattle.signon.specs.SignOnLaws.{path_read}
 use Rattle.signon.specs.Judged.{path_placed}
-use Rattle.records.specs.InBaseLaws.{reached-on}
+use Rattle.records.proofs.InBaseLaws.{reached-on}
 use borrow.Author.Rules.{rules}
 use Rattle.signon.proofs.paths_in_place.Goals as goal
 

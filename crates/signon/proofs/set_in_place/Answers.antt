@@ -2,7 +2,7 @@
 use mathlib.Core.Bool.{not}
 use mathlib.Core.Path.{ap}
 use Rattle.signon.specs.SignOnLaws.{set_dirty, set_masters, set_paths}
-use Rattle.records.specs.InBaseLaws.{set_in_lem, masters-by-kind, points-by-kind}
+use Rattle.records.proofs.InBaseLaws.{set_in_lem, masters-by-kind, points-by-kind}
 use Rattle.signon.proofs.set_in_place.Goals as goal
 
 pub set_clean-requires : goal.set_clean-requires

@@ -1,4 +1,4 @@
-use Rattle.sound.specs.LinearLaws.{in_place-sound}
+use Rattle.sound.proofs.LinearLaws.{in_place-sound}
 use borrow.Author.Rules.{rules}
 use Rattle.store.proofs.sign_on.Statement.{statement}
 use Rattle.store.proofs.sign_on.Tie as tie

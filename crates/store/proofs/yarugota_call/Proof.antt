@@ -1,4 +1,4 @@
-use Rattle.calls.specs.WordLaws.{as_word}
+use Rattle.calls.proofs.WordLaws.{as_word}
 use borrow.Author.Rules.{rules}
 use Rattle.store.proofs.yarugota_call.Statement.{statement}
 use Rattle.store.proofs.yarugota_call.Tie as tie

@@ -7,7 +7,7 @@ use borrow.Author.Tests.{not-true, not-false}
 use Rattle.terms.specs.Terms.{key_of}
 use Rattle.schema.specs.Place.{InSet}
 use Rattle.masters.specs.Find.{home_in, held_by_own}
-use Rattle.masters.specs.WalkLaws.{find-not-held, find-held}
+use Rattle.masters.proofs.WalkLaws.{find-not-held, find-held}
 use Rattle.terms.specs.Laws.{home_in_set}
 use Rattle.masters.proofs.walk.find.Goals as goal
 

@@ -8,7 +8,7 @@ use borrow.Author.Rules.{rules}
 use Rattle.terms.specs.Terms.{key_of}
 use Rattle.masters.specs.Find.{seek, tail_from}
 use Rattle.masters.specs.Walks.{resolve}
-use Rattle.masters.specs.WalkLaws.{Onward, seek_on, tail_on, walk_turn, walk_ends, walk_goes}
+use Rattle.masters.proofs.WalkLaws.{Onward, seek_on, tail_on, walk_turn, walk_ends, walk_goes}
 use Rattle.masters.proofs.walk.seek_from.Given as goal
 
 abbrev pub invariant-loop-r : goal.invariant-loop-r

@@ -3,7 +3,7 @@ use mathlib.Core.Bool.{not}
 use borrow.Author.Tests.{not-true}
 use Rattle.point_calls.specs.SeekLaws.{seen, seen_as, by-seek}
 use Rattle.point_calls.specs.CallLaws.{read-call, read_looks, not-linked}
-use Rattle.records.specs.InBaseLaws.{reached}
+use Rattle.records.proofs.InBaseLaws.{reached}
 use native.Mathlib.Omega.{arith}
 use borrow.Author.Rules.{rules}
 use Rattle.point_calls.proofs.reads.read_along.Goals as goal

@@ -3,7 +3,7 @@ use Prim.Native.Nat.{ℕ}
 use mathlib.Core.Path.{ap, ◌∙◌}
 use mathlib.Core.List.{List}
 use lib.ListN.{length}
-use Rattle.schema.specs.PlaceLaws.{record_length}
+use Rattle.schema.proofs.PlaceLaws.{record_length}
 use Rattle.points.specs.Chains.{read_damaged}
 use Rattle.point_plans.specs.Paths.{uneven_at}
 use Rattle.point_plans.specs.DamageLaws.{uneven_from}

@@ -1,10 +1,10 @@
 use mathlib.Core.Path.{sym, ◌∙◌}
 use mathlib.Core.Bool.{not}
 use Rattle.terms.specs.Terms.{key_of}
-use Rattle.masters.specs.FindLaws.{find_at}
+use Rattle.masters.proofs.FindLaws.{find_at}
 use Rattle.point_calls.specs.OnPath.{Seen}
 use Rattle.point_calls.specs.CallLaws.{read-refused, read-ends, read_low, not-linked}
-use Rattle.records.specs.InBaseLaws.{reached}
+use Rattle.records.proofs.InBaseLaws.{reached}
 use borrow.Author.Rules.{rules}
 use Rattle.point_calls.proofs.reads.read_from.Goals as goal
 

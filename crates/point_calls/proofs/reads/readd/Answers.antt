@@ -2,7 +2,7 @@ use mathlib.Core.Path.{refl, ◌∙◌}
 use Rattle.point_calls.specs.PathLaws.{readd_call}
 use Rattle.point_calls.specs.SeekLaws.{seen, by-seek}
 use Rattle.point_calls.specs.CallLaws.{readd_ends}
-use Rattle.records.specs.InBaseLaws.{reached}
+use Rattle.records.proofs.InBaseLaws.{reached}
 use native.Mathlib.Omega.{arith}
 use borrow.Author.Rules.{rules}
 use Rattle.point_calls.proofs.reads.readd.Goals as goal

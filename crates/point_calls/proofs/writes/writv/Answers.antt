@@ -1,9 +1,9 @@
 use mathlib.Core.Path.{refl, sym, ◌∙◌}
-use Rattle.plans.specs.BodyLaws.{body_ok}
+use Rattle.plans.proofs.BodyLaws.{body_ok}
 use Rattle.point_calls.specs.PathLaws.{writv-call, no_master}
 use Rattle.point_calls.specs.SeekLaws.{seen, by-seek}
 use Rattle.point_calls.specs.StoreLaws.{writv-refused, writv-ends}
-use Rattle.records.specs.InBaseLaws.{reached}
+use Rattle.records.proofs.InBaseLaws.{reached}
 use native.Mathlib.Omega.{arith}
 use borrow.Author.Rules.{rules}
 use Rattle.point_calls.proofs.writes.writv.Goals as goal

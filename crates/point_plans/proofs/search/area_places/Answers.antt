@@ -5,7 +5,7 @@ use Rattle.octets.specs.BelowLaws.{fill_step, rest-step}
 use Rattle.schema.specs.declared.Path.{Path}
 use Rattle.schema.specs.Decode.{path_of}
 use Rattle.records.specs.Areas.{area_key_place}
-use Rattle.records.specs.AreaLaws.{area-key-first, area-key-turn}
+use Rattle.records.proofs.AreaLaws.{area-key-first, area-key-turn}
 use Rattle.point_plans.proofs.search.area_places.Goals as goal
 
 pub loop-k-init : goal.loop-k-init

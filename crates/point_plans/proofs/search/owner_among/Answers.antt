@@ -3,8 +3,8 @@ use mathlib.Core.Path.{◌≡◌, sym, ◌∙◌}
 use Rattle.terms.specs.Terms.{key_of}
 use Rattle.masters.specs.declared.Found.TheVariants.{At}
 use Rattle.masters.specs.Find.{find}
-use Rattle.masters.specs.FindLaws.{find_at}
-use Rattle.schema.specs.PlaceLaws.{lies_most}
+use Rattle.masters.proofs.FindLaws.{find_at}
+use Rattle.schema.proofs.PlaceLaws.{lies_most}
 use Rattle.point_plans.proofs.search.owner_among.Goals as goal
 
 pub part_of-part-requires : goal.part_of-part-requires

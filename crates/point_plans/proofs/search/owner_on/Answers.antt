@@ -1,6 +1,6 @@
 -- `point_plans::search::owner_on` meets its contract: on the named path the master that was found before is the one that would be found.
-use Rattle.masters.specs.FindLaws.{find_at}
-use Rattle.schema.specs.PlaceLaws.{lies_most}
+use Rattle.masters.proofs.FindLaws.{find_at}
+use Rattle.schema.proofs.PlaceLaws.{lies_most}
 use Rattle.point_plans.proofs.search.owner_on.Goals as goal
 
 pub part_of-part-requires : goal.part_of-part-requires

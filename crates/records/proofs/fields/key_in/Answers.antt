@@ -7,7 +7,7 @@ use Rattle.octets.specs.Octets.{run}
 use Rattle.octets.specs.SpliceLaws.{run_run}
 use Rattle.terms.specs.Terms.{key_from}
 use Rattle.schema.specs.Place.{place_of}
-use Rattle.schema.specs.PlaceLaws.{record_length}
+use Rattle.schema.proofs.PlaceLaws.{record_length}
 use borrow.Author.Rules.{rules}
 use Rattle.records.proofs.fields.key_in.Goals as goal
 

@@ -7,7 +7,7 @@ use Rattle.octets.specs.Octets.{same_bytes}
 use Rattle.octets.specs.SpliceLaws.{run_run}
 use Rattle.terms.specs.Terms.{key_of}
 use Rattle.schema.specs.Place.{place_of}
-use Rattle.schema.specs.PlaceLaws.{record_length}
+use Rattle.schema.proofs.PlaceLaws.{record_length}
 use Rattle.records.proofs.fields.key_is.Statement.{statement}
 use Rattle.records.proofs.fields.key_is.Tie as tie
 

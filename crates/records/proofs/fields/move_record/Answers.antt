@@ -2,7 +2,7 @@
 use mathlib.Core.Path.{sym}
 use native.Mathlib.Omega.{arith}
 use borrow.Author.Rules.{rules}
-use Rattle.schema.specs.PlaceLaws.{place_inside, records-apart}
+use Rattle.schema.proofs.PlaceLaws.{place_inside, records-apart}
 use Rattle.records.proofs.fields.move_record.Goals as goal
 
 pub move_within-requires : goal.move_within-requires

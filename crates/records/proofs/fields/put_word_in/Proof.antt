@@ -6,7 +6,7 @@ use lib.ListN.{length}
 use borrow.Author.Rules.{rules}
 use Rattle.octets.specs.WordLaws.{set_word-part}
 use Rattle.schema.specs.Place.{place_of}
-use Rattle.schema.specs.PlaceLaws.{place_inside}
+use Rattle.schema.proofs.PlaceLaws.{place_inside}
 use Rattle.records.proofs.fields.put_word_in.Statement.{statement}
 use Rattle.records.proofs.fields.put_word_in.Tie as tie
 

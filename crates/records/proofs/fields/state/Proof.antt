@@ -3,8 +3,8 @@ use mathlib.Core.Path.{◌≡◌, ap, ◌∙◌}
 use native.Mathlib.Omega.{arith}
 use lib.ListN.{length}
 use borrow.Author.Rules.{rules}
-use Rattle.schema.specs.PlaceLaws.{record_length}
-use Rattle.records.specs.RecordLaws.{state-part}
+use Rattle.schema.proofs.PlaceLaws.{record_length}
+use Rattle.records.proofs.RecordLaws.{state-part}
 use Rattle.records.proofs.fields.state.Statement.{statement}
 use Rattle.records.proofs.fields.state.Tie as tie
 

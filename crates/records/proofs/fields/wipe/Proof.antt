@@ -7,7 +7,7 @@ use lib.ListN.{length, length-replicate}
 use Rattle.octets.specs.Octets.{zeros}
 use Rattle.octets.specs.SpliceLaws.{splice-part}
 use Rattle.schema.specs.Place.{place_of}
-use Rattle.schema.specs.PlaceLaws.{place_inside}
+use Rattle.schema.proofs.PlaceLaws.{place_inside}
 use borrow.Author.Rules.{rules}
 use Rattle.records.proofs.fields.wipe.Statement.{statement}
 use Rattle.records.proofs.fields.wipe.Tie as tie

@@ -5,7 +5,7 @@ use lib.ListN.{length}
 use borrow.Author.Rules.{rules}
 use Rattle.octets.specs.WordLaws.{word_at-part}
 use Rattle.schema.specs.Place.{place_of}
-use Rattle.schema.specs.PlaceLaws.{record_length}
+use Rattle.schema.proofs.PlaceLaws.{record_length}
 use Rattle.records.proofs.fields.word_in.Statement.{statement}
 use Rattle.records.proofs.fields.word_in.Tie as tie
 

@@ -3,7 +3,7 @@ use Prim.Native.Nat.{◌+◌, ◌≤◌}
 use native.Mathlib.Omega.{arith}
 use borrow.Author.Rules.{rules}
 use Rattle.schema.specs.Place.{block_of, place_of}
-use Rattle.schema.specs.PlaceLaws.{place_inside}
+use Rattle.schema.proofs.PlaceLaws.{place_inside}
 use Rattle.schema.proofs.layout.block_of.Statement.{statement}
 use Rattle.schema.proofs.layout.block_of.Tie as tie
 

@@ -6,7 +6,7 @@ use lib.ListN.{length}
 use Rattle.octets.specs.SpliceLaws.{length_run, run_run}
 use Rattle.blocks.specs.Blocks.{block_at}
 use Rattle.schema.specs.Place.{records_held, leftover_size}
-use Rattle.schema.specs.PlaceLaws.{Held, held}
+use Rattle.schema.proofs.PlaceLaws.{Held, held}
 use borrow.Author.Rules.{rules}
 use Rattle.schema.proofs.layout.leftover_of.Statement.{statement}
 use Rattle.schema.proofs.layout.leftover_of.Tie as tie

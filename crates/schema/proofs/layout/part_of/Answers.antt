@@ -1,7 +1,7 @@
 -- `schema::layout::part_of` meets its contract: the record lies within the widest data base and in one block, so place and length fit. Assumes
 -- nothing.
 use native.Mathlib.Omega.{arith}
-use Rattle.schema.specs.PlaceLaws.{place_in_block, place_inside}
+use Rattle.schema.proofs.PlaceLaws.{place_in_block, place_inside}
 use borrow.Author.Rules.{rules}
 use Rattle.schema.proofs.layout.part_of.Goals as goal
 

@@ -2,7 +2,7 @@
 use Prim.Native.Nat.{◌+◌, ◌≤◌}
 use native.Mathlib.Omega.{arith}
 use Rattle.schema.specs.Place.{place_of}
-use Rattle.schema.specs.PlaceLaws.{place_inside}
+use Rattle.schema.proofs.PlaceLaws.{place_inside}
 use borrow.Author.Rules.{rules}
 use Rattle.schema.proofs.layout.place_of.Statement.{statement}
 use Rattle.schema.proofs.layout.place_of.Tie as tie

@@ -5,7 +5,7 @@ use native.Mathlib.Nat.{add-sub_cancel_left}
 use lib.ListN.{length}
 use borrow.Author.Rules.{rules}
 use Rattle.schema.specs.Place.{place_of}
-use Rattle.schema.specs.PlaceLaws.{place_inside}
+use Rattle.schema.proofs.PlaceLaws.{place_inside}
 use Rattle.schema.proofs.layout.record_of.Statement.{statement}
 use Rattle.schema.proofs.layout.record_of.Tie as tie
 

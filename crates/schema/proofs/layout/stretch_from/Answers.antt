@@ -2,7 +2,7 @@
 use Prim.Native.Nat.{◌-◌}
 use native.Mathlib.Omega.{arith}
 use native.Mathlib.Nat.{mod-lt}
-use Rattle.schema.specs.PlaceLaws.{place_inside}
+use Rattle.schema.proofs.PlaceLaws.{place_inside}
 use borrow.Author.Rules.{rules}
 use Rattle.schema.proofs.layout.stretch_from.Goals as goal
 

@@ -3,7 +3,7 @@ use Prim.Native.Nat.{◌*◌}
 use mathlib.Core.Path.{refl, ap}
 use lib.ListN.{length}
 use Rattle.records.specs.InBase.{IsPathUnder, VariableIn}
-use Rattle.records.specs.InBaseLaws.{of_a-schema, variable_in}
+use Rattle.records.proofs.InBaseLaws.{of_a-schema, variable_in}
 use Rattle.point_calls.specs.PathLaws.{known_under, known_among}
 use Rattle.store.specs.Kinds.{point_operation}
 use Rattle.store.specs.BehindLaws.{along-path, along-paths}

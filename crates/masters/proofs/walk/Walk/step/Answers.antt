@@ -8,7 +8,7 @@ use Rattle.octets.specs.RunLaws.{same_bytes_comm}
 use Rattle.terms.specs.Terms.{key_of}
 use Rattle.schema.specs.Place.{place_of}
 use Rattle.records.specs.Records.{master_key}
-use Rattle.masters.specs.WalkLaws.{step_over, step-none, step-above, step-look}
+use Rattle.masters.proofs.WalkLaws.{step_over, step-none, step-above, step-look}
 use Rattle.masters.proofs.walk.Walk.step.Goals as goal
 
 pub returns-then-e-self : goal.returns-then-e-self

@@ -1,0 +1,9 @@
+pub mod Answer
+pub mod Theorems
+pub mod WordLaws
+pub mod OperationLaws
+pub mod LadderLaws
+pub mod OutcomeLaws
+pub mod BytesLaws
+pub mod RestLaws
+pub mod SceneLaws

@@ -1,0 +1,4 @@
+pub mod BodyLaws
+pub mod FitLaws
+pub mod MadeLaws
+pub mod PlanLaws

@@ -1,0 +1,10 @@
+pub mod FieldPlaces
+pub mod AddressLaws
+pub mod FieldLaws
+pub mod WholeLaws
+pub mod FillerLaws
+pub mod RecordLaws
+pub mod KindLaws
+pub mod AreaLaws
+pub mod NewLaws
+pub mod InBaseLaws

@@ -1,0 +1,9 @@
+pub mod SoundLaws
+pub mod ListLaws
+pub mod KeyLaws
+pub mod HomeLaws
+pub mod MasterLaws
+pub mod RideLaws
+pub mod PathLaws
+pub mod CountLaws
+pub mod LinearLaws
