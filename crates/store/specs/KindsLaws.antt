@@ -11,7 +11,6 @@ use Rattle.store.specs.declared.kinds.OnMasters.{OnMasters}
 use Rattle.store.specs.declared.kinds.OnMasters.TheVariants as M
 use Rattle.store.specs.declared.kinds.OnPoints.{OnPoints}
 use Rattle.store.specs.declared.kinds.OnPoints.TheVariants as P
-use Rattle.store.specs.declared.kinds.Kind.TheVariants as K
 use Rattle.store.specs.Kinds.{master_operation, point_operation, operation_kind, operation_in}
 
 pub kind-back : (o : Operation) → operation_in (operation_kind o) ≡ o

@@ -1,14 +1,8 @@
 -- `areas::area_key_place` meets its contract. The loop's invariant: `at` is the place of path k's key, and at most 255 for each path
 -- passed, so that no sum wraps. Assumes nothing.
 use Prim.Native.Nat.{◌*◌, ◌-◌, ◌≤◌}
-use mathlib.Core.Path.{◌≡◌, ap, ◌∙◌}
-use native.Mathlib.Omega.{arith}
-use borrow.Author.Rules.{rules}
-use Rattle.octets.specs.Below.{sum_below}
-use Rattle.schema.specs.declared.Path.{Path}
-use Rattle.schema.specs.Decode.{path_of}
+use mathlib.Core.Path.{◌≡◌}
 use Rattle.records.specs.Areas.{area_key_place}
-use Rattle.records.proofs.AreaLaws.{area-key-turn}
 use Rattle.areas.proofs.area_key_place.Given as goal
 
 abbrev pub invariant-loop-k : goal.invariant-loop-k

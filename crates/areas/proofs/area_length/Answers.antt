@@ -1,6 +1,5 @@
 -- `areas::area_length` meets its contract: the keys are no more than the places in front of the D bytes, so the sum fits. Assumes nothing.
 use native.Mathlib.Omega.{arith}
-use borrow.Author.Rules.{rules}
 use Rattle.records.proofs.AreaLaws.{keys_inside}
 use Rattle.areas.proofs.area_length.Goals as goal
 

@@ -1,6 +1,5 @@
 -- `areas::new_variable` meets its contract: the fields, stored one behind the other, are one splice. Assumes nothing.
 use native.Mathlib.Omega.{arith}
-use borrow.Author.Rules.{rules}
 use Rattle.records.proofs.AreaLaws.{head_inside}
 use Rattle.records.proofs.NewLaws.{variable-made}
 use Rattle.areas.proofs.new_variable.Goals as goal

@@ -1,5 +1,4 @@
 -- `areas::put_path` meets its contract: the key and the two words, stored one behind the other, are one splice. Assumes nothing.
-use borrow.Author.Rules.{rules}
 use Rattle.octets.specs.Octets.{run}
 use Rattle.octets.specs.SpliceLaws.{length_run}
 use Rattle.records.proofs.NewLaws.{path_made}

@@ -1,7 +1,6 @@
 -- `blocks::block` meets its contract: the part lent is the block.
 use mathlib.Core.Path.{refl}
 use native.Mathlib.Nat.{add-sub_cancel_left}
-use borrow.Author.Rules.{rules}
 use Rattle.blocks.proofs.block.Goals as goal
 
 pub returns : goal.returns

@@ -2,7 +2,6 @@
 use native.Mathlib.Nat.{add-sub_cancel_left}
 use native.Mathlib.Omega.{arith}
 use Rattle.octets.specs.WordLaws.{set_word-part}
-use borrow.Author.Rules.{rules}
 use Rattle.blocks.proofs.put_check.Goals as goal
 
 pub returns : goal.returns

@@ -3,7 +3,6 @@ use mathlib.Core.Path.{refl, ap, ◌∙◌}
 use lib.ListN.{length}
 use Rattle.octets.specs.SpliceLaws.{length_run}
 use Rattle.blocks.specs.Blocks.{seal}
-use borrow.Author.Rules.{rules}
 use Rattle.blocks.proofs.seal.Goals as goal
 
 pub check_of-v-requires : goal.check_of-v-requires

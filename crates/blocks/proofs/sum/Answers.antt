@@ -3,7 +3,6 @@ use mathlib.Core.Path.{sym}
 use native.Mathlib.Omega.{arith}
 use lib.Seq.{length-take-le}
 use Rattle.blocks.specs.Blocks.{check_of}
-use borrow.Author.Rules.{rules}
 use Rattle.blocks.proofs.sum.Goals as goal
 
 pub slice_bounds-word_sum-end : goal.slice_bounds-word_sum-end

@@ -1,6 +1,5 @@
 -- `clean::checks_true` meets its contract: the blocks are those of the schema.
 use Rattle.sound.specs.Sound.{checks_true}
-use borrow.Author.Rules.{rules}
 use Rattle.clean.proofs.checks_true.Goals as goal
 
 pub returns : goal.returns

@@ -1,6 +1,5 @@
 -- `clean::leftover_clean` meets its contract: the part that is asked is the room behind the records.
 use Rattle.sound.specs.Sound.{leftover_clean}
-use borrow.Author.Rules.{rules}
 use Rattle.clean.proofs.leftover_clean.Goals as goal
 
 pub returns : goal.returns

@@ -1,6 +1,6 @@
-use Prim.Native.Nat.{◌-◌, ◌≤◌, ◌<◌}
-use mathlib.Core.Path.{◌≡◌, ap}
-use mathlib.Core.Bool.{true, not}
+use Prim.Native.Nat.{◌<◌}
+use mathlib.Core.Path.{ap}
+use mathlib.Core.Bool.{not}
 use native.Mathlib.Omega.{arith}
 use Rattle.octets.specs.Below.{all_below}
 use Rattle.schema.specs.Place.{blocks_held}

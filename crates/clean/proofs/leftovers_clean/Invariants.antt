@@ -1,13 +1,9 @@
 -- `clean::leftovers_clean` meets its contract. The invariant: behind the records of the blocks passed there are zeros.
-use Prim.Native.Nat.{◌-◌, ◌≤◌, ◌<◌}
+use Prim.Native.Nat.{◌-◌, ◌≤◌}
 use mathlib.Core.Path.{◌≡◌}
 use mathlib.Core.Bool.{true}
-use native.Mathlib.Omega.{arith}
 use Rattle.octets.specs.Below.{all_below}
-use Rattle.schema.specs.Place.{blocks_held}
 use Rattle.sound.specs.Sound.{leftover_clean}
-use Rattle.clean.specs.CleanLaws.{passes, fails, ends}
-use borrow.Author.Rules.{rules}
 use Rattle.clean.proofs.leftovers_clean.Given as goal
 
 abbrev pub invariant-loop-k : goal.invariant-loop-k

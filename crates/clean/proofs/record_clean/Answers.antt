@@ -4,7 +4,6 @@ use native.Mathlib.Omega.{arith}
 use lib.ListN.{length}
 use Rattle.schema.proofs.PlaceLaws.{record_length}
 use Rattle.clean.specs.CleanLaws.{clean-live, clean_free}
-use borrow.Author.Rules.{rules}
 use Rattle.clean.proofs.record_clean.Goals as goal
 
 pub bounds-part-0 : goal.bounds-part-0

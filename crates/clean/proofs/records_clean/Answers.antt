@@ -1,6 +1,6 @@
-use Prim.Native.Nat.{◌+◌, ◌-◌, ◌≤◌}
-use mathlib.Core.Path.{◌≡◌, ap}
-use mathlib.Core.Bool.{true, not}
+use Prim.Native.Nat.{◌+◌}
+use mathlib.Core.Path.{ap}
+use mathlib.Core.Bool.{not}
 use Rattle.octets.specs.Below.{all_below}
 use Rattle.sound.specs.Sound.{record_clean}
 use Rattle.clean.specs.CleanLaws.{passes, fails, ends}

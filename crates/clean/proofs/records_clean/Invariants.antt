@@ -4,8 +4,6 @@ use mathlib.Core.Path.{◌≡◌}
 use mathlib.Core.Bool.{true}
 use Rattle.octets.specs.Below.{all_below}
 use Rattle.sound.specs.Sound.{record_clean}
-use Rattle.clean.specs.CleanLaws.{passes, fails, ends}
-use borrow.Author.Rules.{rules}
 use Rattle.clean.proofs.records_clean.Given as goal
 
 abbrev pub invariant-loop-k : goal.invariant-loop-k

@@ -1,6 +1,5 @@
-use Prim.Native.Nat.{◌-◌, ◌≤◌}
-use mathlib.Core.Path.{◌≡◌, ap}
-use mathlib.Core.Bool.{true, not}
+use mathlib.Core.Path.{ap}
+use mathlib.Core.Bool.{not}
 use Rattle.octets.specs.Below.{all_below}
 use Rattle.blocks.specs.Blocks.{is_sealed}
 use Rattle.clean.specs.CleanLaws.{passes, fails, ends}

@@ -4,8 +4,6 @@ use mathlib.Core.Path.{◌≡◌}
 use mathlib.Core.Bool.{true}
 use Rattle.octets.specs.Below.{all_below}
 use Rattle.blocks.specs.Blocks.{is_sealed}
-use Rattle.clean.specs.CleanLaws.{passes, fails, ends}
-use borrow.Author.Rules.{rules}
 use Rattle.clean.proofs.sealed_below.Given as goal
 
 abbrev pub invariant-loop-i : goal.invariant-loop-i

@@ -3,7 +3,6 @@ use mathlib.Core.Bool.{not}
 use mathlib.Core.Path.{ap}
 use Rattle.sound.specs.Sound.{each_record, record_clean, set_clean}
 use Rattle.clean.specs.CleanLaws.{stops, goes_on}
-use borrow.Author.Rules.{rules}
 use Rattle.clean.proofs.set_clean.Goals as goal
 
 pub returns-then-not-records_clean : goal.returns-then-not-records_clean

@@ -1,16 +1,11 @@
-use Prim.Native.Nat.{◌-◌, ◌≤◌}
 use mathlib.Core.Path.{◌≡◌, sym, ◌∙◌, ap}
 use mathlib.Core.Bool.{false, not}
 use native.Mathlib.Omega.{arith}
-use lib.ListN.{length, drop, length-map}
-use borrow.Author.Rules.{rules}
+use lib.ListN.{length, drop}
 use borrow.Author.Tests.{not-true, not-false}
 use Rattle.blocks.specs.Blocks.{is_sealed}
 use Rattle.commit.specs.Touched.{numbers_of, all_sealed}
 use Rattle.commit.specs.TouchedLaws.{blocks-turn, blocks_fail, blocks_end, block_within_lem}
-use Rattle.commit.proofs.all_sealed.Reads as reads
-use Rattle.commit.proofs.all_sealed.Lts as lts
-use Rattle.blocks.proofs.sealed.Reads as sealed-reads
 use Rattle.commit.proofs.all_sealed.Goals as goal
 
 pub sealed-requires : goal.sealed-requires

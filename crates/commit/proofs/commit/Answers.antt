@@ -1,8 +1,6 @@
 -- `commit::commit` meets its contract: the blocks that the plan touches answer for its stores. Assumes nothing.
 use mathlib.Core.Path.{◌≡◌, ◌∙◌}
 use lib.ListN.{length}
-use borrow.Author.Rules.{rules}
-use Rattle.blocks.specs.declared.Check.{Check}
 use Rattle.plans.specs.Plan.{blocks_sealed}
 use Rattle.plans.specs.Stores.{plan_stores}
 use Rattle.commit.specs.Touched.{numbers_of, AllWithin, all_sealed}

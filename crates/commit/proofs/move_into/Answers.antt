@@ -1,6 +1,5 @@
 -- `commit::move_into` meets its contract: a record stored over itself changes nothing. Assumes nothing.
 use mathlib.Core.Path.{sym}
-use borrow.Author.Rules.{rules}
 use Rattle.octets.specs.SpliceLaws.{splice-run_id}
 use Rattle.schema.specs.Place.{place_of}
 use Rattle.schema.proofs.PlaceLaws.{place_inside}

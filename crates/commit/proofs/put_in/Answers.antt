@@ -1,7 +1,6 @@
 -- `commit::put_in` meets its contract: a word stored into its record is stored into the data base. Assumes nothing.
 use native.Mathlib.Nat.{add-sub_cancel_left}
 use Rattle.octets.specs.WordLaws.{set_word-part}
-use borrow.Author.Rules.{rules}
 use Rattle.commit.proofs.put_in.Goals as goal
 
 pub returns : goal.returns

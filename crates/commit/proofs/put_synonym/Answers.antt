@@ -2,7 +2,6 @@
 use mathlib.Core.Path.{◌≡◌}
 use native.Mathlib.Omega.{arith}
 use lib.ListN.{length}
-use borrow.Author.Rules.{rules}
 use Rattle.schema.specs.Place.{place_of, record_of}
 use Rattle.schema.proofs.PlaceLaws.{place_inside, record_length}
 use Rattle.commit.specs.StoreLaws.{set_word_inner}

@@ -1,13 +1,7 @@
-use Prim.Native.Nat.{◌-◌, ◌≤◌}
 use mathlib.Core.Path.{◌≡◌, sym, ◌∙◌}
 use native.Mathlib.Omega.{arith}
-use lib.ListN.{length, drop, length-map}
-use borrow.Author.Rules.{rules}
-use Rattle.commit.specs.Touched.{numbers_of, seal_each}
+use lib.ListN.{length}
 use Rattle.commit.specs.TouchedLaws.{block_within_lem, seal-turn, seal_end}
-use Rattle.commit.proofs.seal_all.Reads as reads
-use Rattle.commit.proofs.seal_all.Lts as lts
-use Rattle.blocks.proofs.seal.Reads as seal-reads
 use Rattle.commit.proofs.seal_all.Goals as goal
 
 pub seal-requires : goal.seal-requires

@@ -1,15 +1,9 @@
 -- `commit::seal_all` meets its contract. The loop's invariant: what is left of the blocks, sealed, makes of the data base what all of them
 -- make of it at entry. Assumes nothing.
 use Prim.Native.Nat.{◌-◌, ◌≤◌}
-use mathlib.Core.Path.{◌≡◌, sym, ◌∙◌}
-use native.Mathlib.Omega.{arith}
-use lib.ListN.{length, drop, length-map}
-use borrow.Author.Rules.{rules}
+use mathlib.Core.Path.{◌≡◌}
+use lib.ListN.{length, drop}
 use Rattle.commit.specs.Touched.{numbers_of, seal_each}
-use Rattle.commit.specs.TouchedLaws.{block_within_lem, seal-turn, seal_end}
-use Rattle.commit.proofs.seal_all.Reads as reads
-use Rattle.commit.proofs.seal_all.Lts as lts
-use Rattle.blocks.proofs.seal.Reads as seal-reads
 use Rattle.commit.proofs.seal_all.Given as goal
 
 abbrev pub invariant-loop-k : goal.invariant-loop-k

@@ -1,5 +1,4 @@
 -- `commit::store` meets its contract: the head's stores, then the words, then the wiped record. Assumes nothing.
-use borrow.Author.Rules.{rules}
 use Rattle.commit.specs.StoreLaws.{plan_stored}
 use Rattle.commit.proofs.store.Goals as goal
 

@@ -1,12 +1,10 @@
 -- `commit::store_head` meets its contract: each head has its own stores. Assumes nothing.
 use mathlib.Core.Path.{◌≡◌, refl, ap}
-use mathlib.Core.List.{List}
 use native.Mathlib.Omega.{arith}
-use borrow.Author.Rules.{rules}
 use borrow.Author.Tests.{eq-eqb}
 use Rattle.plans.specs.declared.Head.{Head}
 use Rattle.plans.specs.declared.Head.TheVariants.{Nothing, Body, Master, Variable, Stranger, Synonym}
-use Rattle.plans.specs.Plan.{Store, store_all}
+use Rattle.plans.specs.Plan.{store_all}
 use Rattle.plans.specs.PlanOk.{HeadOk, AreaOk}
 use Rattle.plans.specs.Stores.{head_stores}
 use Rattle.commit.proofs.store_head.Goals as goal

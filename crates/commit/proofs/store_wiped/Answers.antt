@@ -1,6 +1,5 @@
 -- `commit::store_wiped` meets its contract: record 0 is none. Assumes nothing.
 use mathlib.Core.Path.{refl}
-use borrow.Author.Rules.{rules}
 use borrow.Author.Tests.{eq-eqb, ne_eqb}
 use Rattle.plans.specs.Plan.{store_all}
 use Rattle.commit.proofs.store_wiped.Goals as goal

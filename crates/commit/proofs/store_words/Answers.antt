@@ -1,10 +1,6 @@
-use Prim.Native.Nat.{◌-◌, ◌≤◌}
 use mathlib.Core.Path.{◌≡◌, sym, ◌∙◌}
 use native.Mathlib.Omega.{arith}
-use lib.ListN.{length, drop, length-map}
-use borrow.Author.Rules.{rules}
-use Rattle.plans.specs.Plan.{store_all}
-use Rattle.plans.specs.Stores.{words_of, word_stores}
+use lib.ListN.{length}
 use Rattle.commit.specs.StoreLaws.{word_in_base, store-word_turn, store-words_end}
 use Rattle.commit.proofs.store_words.Goals as goal
 

@@ -1,13 +1,10 @@
 -- `commit::store_words` meets its contract. The loop's invariant: what is left of the words, stored, makes of the data base what all of
 -- them make of it at entry. Assumes nothing.
 use Prim.Native.Nat.{◌-◌, ◌≤◌}
-use mathlib.Core.Path.{◌≡◌, sym, ◌∙◌}
-use native.Mathlib.Omega.{arith}
-use lib.ListN.{length, drop, length-map}
-use borrow.Author.Rules.{rules}
+use mathlib.Core.Path.{◌≡◌}
+use lib.ListN.{length, drop}
 use Rattle.plans.specs.Plan.{store_all}
 use Rattle.plans.specs.Stores.{words_of, word_stores}
-use Rattle.commit.specs.StoreLaws.{word_in_base, store-word_turn, store-words_end}
 use Rattle.commit.proofs.store_words.Given as goal
 
 abbrev pub invariant-loop-i : goal.invariant-loop-i

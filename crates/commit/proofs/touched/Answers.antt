@@ -1,5 +1,4 @@
 -- `commit::touched` meets its contract: the head's blocks, then the words', then the wiped record's. Assumes nothing.
-use borrow.Author.Rules.{rules}
 use Rattle.commit.specs.Touched.{plan_blocks}
 use Rattle.commit.specs.DistinctLaws.{three-parts}
 use Rattle.commit.proofs.touched.Goals as goal

@@ -3,7 +3,6 @@ use mathlib.Core.Path.{refl}
 use native.Mathlib.Omega.{arith}
 use borrow.Author.Tests.{eq-eqb, ne_eqb}
 use Rattle.commit.specs.Touched.{add_all}
-use borrow.Author.Rules.{rules}
 use Rattle.commit.proofs.wiped_block.Goals as goal
 
 pub returns-then-r-eq0 : goal.returns-then-r-eq0

@@ -1,11 +1,8 @@
-use Prim.Native.Nat.{◌+◌, ◌-◌, ◌≤◌}
 use mathlib.Core.Path.{◌≡◌, sym, ◌∙◌}
 use native.Mathlib.Omega.{arith}
-use lib.ListN.{length, drop, length-map}
-use Rattle.plans.specs.Stores.{words_of}
-use Rattle.commit.specs.Touched.{numbers_of, add_all, word_blocks}
+use lib.ListN.{length}
+use Rattle.commit.specs.Touched.{numbers_of}
 use Rattle.commit.specs.TouchedLaws.{word_block_turn, word_blocks_end}
-use borrow.Author.Rules.{rules}
 use Rattle.commit.proofs.word_blocks.Goals as goal
 
 pub loop-i-preserved : goal.loop-i-preserved

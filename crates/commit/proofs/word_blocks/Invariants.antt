@@ -1,13 +1,10 @@
 -- `commit::word_blocks` meets its contract. The loop's invariant: what is left of the words adds to the blocks what all of them add to
 -- those at entry. Assumes nothing.
 use Prim.Native.Nat.{◌+◌, ◌-◌, ◌≤◌}
-use mathlib.Core.Path.{◌≡◌, sym, ◌∙◌}
-use native.Mathlib.Omega.{arith}
-use lib.ListN.{length, drop, length-map}
+use mathlib.Core.Path.{◌≡◌}
+use lib.ListN.{drop}
 use Rattle.plans.specs.Stores.{words_of}
 use Rattle.commit.specs.Touched.{numbers_of, add_all, word_blocks}
-use Rattle.commit.specs.TouchedLaws.{word_block_turn, word_blocks_end}
-use borrow.Author.Rules.{rules}
 use Rattle.commit.proofs.word_blocks.Given as goal
 
 abbrev pub invariant-loop-i : goal.invariant-loop-i

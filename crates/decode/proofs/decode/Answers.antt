@@ -3,7 +3,6 @@ use mathlib.Core.Bool.{not}
 use mathlib.Core.Path.{sym, ◌∙◌, ap}
 use borrow.Author.Tests.{not-false}
 use Rattle.decode.specs.DecodeLaws.{no_form}
-use borrow.Author.Rules.{rules}
 use Rattle.decode.proofs.decode.Goals as goal
 
 pub returns-then-not-form : goal.returns-then-not-form

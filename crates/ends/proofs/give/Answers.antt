@@ -1,10 +1,5 @@
 use borrow.Author.Rules.{rules}
 use Rattle.ends.specs.EndsLaws.{gave-none, gave_some}
-use Rattle.ends.proofs.give.Reads as reads
-use Rattle.ends.proofs.give.Lts as lts
-use Rattle.areas.proofs.read_area.Reads as read-area-reads
-use Rattle.terms.proofs.Reference.end.Reads as end_reads
-use Rattle.terms.proofs.Reference.number.Reads as number-reads
 use Rattle.ends.proofs.give.Goals as goal
 
 pub returns-then-r-eq0 : goal.returns-then-r-eq0

@@ -1,5 +1,4 @@
 use mathlib.Core.Path.{sym, ap, ◌∙◌}
-use borrow.Author.Rules.{rules}
 use Rattle.terms.specs.declared.Status.TheVariants.{Done}
 use Rattle.terms.specs.Laws.{status-number-one}
 use Rattle.ends.specs.EndsLaws.{settled-refused, settled-done, settled-damaged}

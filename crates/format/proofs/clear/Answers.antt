@@ -1,7 +1,6 @@
 -- `format::clear` meets its contract: zeros over the whole buffer are all that it then holds.
 use mathlib.Core.Path.{◌∙◌}
 use Rattle.format.specs.FormatLaws.{zeros-whole}
-use borrow.Author.Rules.{rules}
 use Rattle.format.proofs.clear.Goals as goal
 
 pub returns : goal.returns

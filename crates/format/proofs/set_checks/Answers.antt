@@ -1,12 +1,8 @@
-use Prim.Native.Nat.{◌*◌, ◌-◌, ◌≤◌}
-use mathlib.Core.Path.{◌≡◌, refl, ◌∙◌}
+use Prim.Native.Nat.{◌*◌}
+use mathlib.Core.Path.{refl, ◌∙◌}
 use native.Mathlib.Omega.{arith}
-use lib.ListN.{length}
-use Rattle.blocks.specs.declared.Check.{Check}
 use Rattle.blocks.specs.declared.Check.TheVariants.{Sum}
-use Rattle.plans.specs.Plan.{seal_below}
 use Rattle.format.specs.FormatLaws.{length-zeros, seals_begin, seals_turn, seals_end, still_zero}
-use borrow.Author.Rules.{rules}
 use Rattle.format.proofs.set_checks.Goals as goal
 
 pub loop-i-init : goal.loop-i-init

@@ -1,13 +1,9 @@
 -- `format::set_checks` meets its contract. The invariant: the checks of the blocks passed are set, and nothing else is changed.
-use Prim.Native.Nat.{◌*◌, ◌-◌, ◌≤◌}
-use mathlib.Core.Path.{◌≡◌, refl, ◌∙◌}
-use native.Mathlib.Omega.{arith}
+use Prim.Native.Nat.{◌-◌, ◌≤◌}
+use mathlib.Core.Path.{◌≡◌}
 use lib.ListN.{length}
 use Rattle.blocks.specs.declared.Check.{Check}
-use Rattle.blocks.specs.declared.Check.TheVariants.{Sum}
 use Rattle.plans.specs.Plan.{seal_below}
-use Rattle.format.specs.FormatLaws.{length-zeros, seals_begin, seals_turn, seals_end, still_zero}
-use borrow.Author.Rules.{rules}
 use Rattle.format.proofs.set_checks.Given as goal
 
 abbrev pub invariant-loop-i : goal.invariant-loop-i

@@ -3,11 +3,10 @@ use mathlib.Core.Path.{◌≡◌, sym, ap, ◌∙◌}
 use mathlib.Core.Bool.{true}
 use native.Mathlib.Omega.{arith}
 use Rattle.octets.specs.Octets.{all_blank}
-use borrow.Author.Tests.{eq-eqb, ne_eqb, not-true, not-false}
+use borrow.Author.Tests.{eq-eqb, ne_eqb}
 use Rattle.records.proofs.AreaLaws.{master_keys}
 use Rattle.calls.specs.Ladder.{blank_area_key}
 use Rattle.forms.specs.FormLaws.{not-asked, is_asked, blank_master}
-use borrow.Author.Rules.{rules}
 use Rattle.forms.proofs.blank_area_key.Goals as goal
 
 pub returns-then-not-asked : goal.returns-then-not-asked

@@ -1,15 +1,14 @@
-use Prim.Native.Nat.{◌+◌, ◌-◌, ◌≤◌}
+use Prim.Native.Nat.{◌+◌, ◌≤◌}
 use mathlib.Core.Path.{◌≡◌, refl, sym, ap, ◌∙◌}
-use mathlib.Core.Bool.{true, not}
+use mathlib.Core.Bool.{not}
 use native.Mathlib.Omega.{arith}
 use lib.ListN.{length}
 use Rattle.octets.specs.Octets.{all_blank}
 use Rattle.octets.specs.Below.{all_below}
 use Rattle.octets.specs.BelowLaws.{all_below-turn}
 use Rattle.schema.specs.declared.Path.{Path}
-use Rattle.schema.specs.declared.Entry.{Entry}
 use Rattle.schema.specs.Decode.{path_of}
-use Rattle.records.specs.Areas.{area_key_place, area_key_on}
+use Rattle.records.specs.Areas.{area_key_on}
 use Rattle.records.proofs.AreaLaws.{area-key-first, area-key-turn, area-key-inside, variable_keys}
 use Rattle.forms.specs.FormLaws.{not_blank, blank_found, blank_none}
 use borrow.Author.Rules.{rules}

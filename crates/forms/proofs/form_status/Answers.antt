@@ -9,7 +9,6 @@ use Rattle.records.specs.Areas.{area_length}
 use Rattle.forms.specs.declared.Rungs.{Rungs}
 use Rattle.forms.specs.Form.{rungs_of}
 use Rattle.forms.specs.FormLaws.{area-fits, form-area, form-keyless, form_klen, form_keys}
-use borrow.Author.Rules.{rules}
 use Rattle.forms.proofs.form_status.Goals as goal
 
 pub returns-then-q-fits : goal.returns-then-q-fits

@@ -3,14 +3,13 @@ use Prim.Native.Nat.{◌<◌}
 use mathlib.Core.Path.{◌≡◌, sym, ap, ◌∙◌}
 use mathlib.Core.Bool.{true, not}
 use native.Mathlib.Omega.{arith}
-use borrow.Author.Tests.{eq-eqb, ne_eqb, not-true, not-false}
+use borrow.Author.Tests.{eq-eqb, ne_eqb}
 use Rattle.terms.specs.Terms.{key_of}
 use Rattle.schema.specs.declared.Path.{Path}
 use Rattle.schema.specs.Decode.{path_of}
 use Rattle.records.proofs.AreaLaws.{master_keys, variable_keys, area-key-inside}
 use Rattle.calls.specs.Ladder.{other_area_key}
 use Rattle.forms.specs.FormLaws.{not-asked, is_asked, other_master-key, other_path}
-use borrow.Author.Rules.{rules}
 use Rattle.forms.proofs.other_area_key.Goals as goal
 
 pub returns-then-not-asked : goal.returns-then-not-asked

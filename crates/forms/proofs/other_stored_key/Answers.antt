@@ -1,19 +1,14 @@
-use Prim.Native.Nat.{ℕ, ◌+◌, ◌-◌, ◌<◌, ◌≤◌}
+use Prim.Native.Nat.{ℕ, ◌+◌, ◌<◌, ◌≤◌}
 use mathlib.Core.Path.{◌≡◌, refl, sym, ap, ◌∙◌}
-use mathlib.Core.Bool.{Bool, true}
-use mathlib.Core.List.{List}
 use native.Mathlib.Omega.{arith}
 use lib.ListN.{length}
-use borrow.Author.Tests.{not-true, not-false}
-use Rattle.octets.specs.Octets.{run, same_bytes}
+use Rattle.octets.specs.Octets.{run}
 use Rattle.octets.specs.SpliceLaws.{length_run, run_run}
 use Rattle.octets.specs.Below.{all_below}
 use Rattle.octets.specs.BelowLaws.{all_below-turn, all_below-same}
 use Rattle.schema.specs.declared.Path.{Path}
-use Rattle.schema.specs.declared.Entry.{Entry}
 use Rattle.schema.specs.Decode.{path_of}
 use Rattle.schema.specs.Place.{place_of}
-use Rattle.records.specs.Areas.{area_key_place, area_key_on}
 use Rattle.records.proofs.RecordLaws.{part-is, whole-inside}
 use Rattle.records.proofs.AreaLaws.{area-key-first, area-key-turn, area-key-inside, variable_keys, keys_inside, path_inside}
 use Rattle.forms.specs.FormLaws.{same_stored, other_found, other_none}

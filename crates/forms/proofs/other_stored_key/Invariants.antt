@@ -1,24 +1,13 @@
 -- `forms::other_stored_key` meets its contract. The invariant: `at` is the place of path j's key, and each before it is the stored one.
-use Prim.Native.Nat.{ℕ, ◌+◌, ◌-◌, ◌<◌, ◌≤◌}
-use mathlib.Core.Path.{◌≡◌, refl, sym, ap, ◌∙◌}
+use Prim.Native.Nat.{ℕ, ◌-◌, ◌≤◌}
+use mathlib.Core.Path.{◌≡◌}
 use mathlib.Core.Bool.{Bool, true}
 use mathlib.Core.List.{List}
-use native.Mathlib.Omega.{arith}
-use lib.ListN.{length}
-use borrow.Author.Tests.{not-true, not-false}
 use Rattle.octets.specs.Octets.{run, same_bytes}
-use Rattle.octets.specs.SpliceLaws.{length_run, run_run}
 use Rattle.octets.specs.Below.{all_below}
-use Rattle.octets.specs.BelowLaws.{all_below-turn, all_below-same}
-use Rattle.schema.specs.declared.Path.{Path}
 use Rattle.schema.specs.declared.Entry.{Entry}
 use Rattle.schema.specs.Decode.{path_of}
-use Rattle.schema.specs.Place.{place_of}
 use Rattle.records.specs.Areas.{area_key_place, area_key_on}
-use Rattle.records.proofs.RecordLaws.{part-is, whole-inside}
-use Rattle.records.proofs.AreaLaws.{area-key-first, area-key-turn, area-key-inside, variable_keys, keys_inside, path_inside}
-use Rattle.forms.specs.FormLaws.{same_stored, other_found, other_none}
-use borrow.Author.Rules.{rules}
 use Rattle.forms.proofs.other_stored_key.Given as goal
 
 -- the key of a path in the area and in the record's part

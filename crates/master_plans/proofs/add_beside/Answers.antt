@@ -4,7 +4,6 @@ use Rattle.schema.proofs.PlaceLaws.{lies_most}
 use Rattle.master_plans.specs.TestLaws.{stands_as}
 use Rattle.master_plans.specs.AddLaws.{synonym_stands, beside-own, beside-stranger}
 use Rattle.plans.proofs.MadeLaws.{none-refused}
-use borrow.Author.Rules.{rules}
 use Rattle.master_plans.proofs.add_beside.Goals as goal
 
 pub synonym_plan-requires : goal.synonym_plan-requires

@@ -1,14 +1,11 @@
 -- `master_plans::add_for_stranger` meets its contract: neighbours that are not bad are records of the set. Assumes nothing.
 use mathlib.Core.Path.{◌≡◌, refl, ◌∙◌}
-use mathlib.Core.Bool.{Bool, ◌||◌}
-use lib.Dec.{eqb}
 use Rattle.master_plans.specs.Shape.{stranger_damaged}
 use Rattle.schema.proofs.PlaceLaws.{lies_most}
 use Rattle.master_plans.specs.AddLaws.{stranger-tests, stranger_near, stranger-stands}
 use Rattle.plans.proofs.MadeLaws.{refused-status, refused_none, none-refused}
 use Rattle.terms.specs.Laws.{refused-done}
 use native.Mathlib.Omega.{arith}
-use borrow.Author.Rules.{rules}
 use Rattle.master_plans.proofs.add_for_stranger.Goals as goal
 
 pub returns-then-prior-before : goal.returns-then-prior-before

@@ -3,14 +3,12 @@ use Prim.Native.Nat.{◌≤◌, ◌<◌}
 use mathlib.Core.Path.{◌≡◌, refl, sym, ◌∙◌}
 use mathlib.Core.Bool.{true}
 use native.Mathlib.Omega.{arith}
-use borrow.Author.Tests.{not-true, not-false}
 use Rattle.records.specs.Records.{is_live}
 use Rattle.scan.specs.Scan.{lowest_free}
 use Rattle.master_plans.specs.TestLaws.{stands_as}
 use Rattle.master_plans.specs.AddLaws.{home-stands, add-home-status, add-home-stores, add-full, add-beside-status, add-beside-stores, free_in, free_apart}
 use Rattle.plans.proofs.MadeLaws.{refused-status, refused_none, none-refused}
 use Rattle.terms.specs.Laws.{refused-done}
-use borrow.Author.Rules.{rules}
 use Rattle.master_plans.proofs.add_master.Goals as goal
 
 pub returns-then-not-is_live : goal.returns-then-not-is_live

@@ -1,6 +1,5 @@
 -- `master_plans::del_by_move` meets its contract: a next that is not bad is 0 or a record of the set. Assumes nothing.
 use mathlib.Core.Path.{◌≡◌, refl, ◌∙◌}
-use mathlib.Core.Bool.{Bool}
 use Rattle.records.specs.Records.{root_next}
 use Rattle.masters.specs.Root.{bad_root}
 use Rattle.schema.proofs.PlaceLaws.{lies_most}
@@ -9,7 +8,6 @@ use Rattle.master_plans.specs.DelLaws.{move_stands}
 use Rattle.plans.proofs.MadeLaws.{refused-status, refused_none, none-refused}
 use Rattle.terms.specs.Laws.{refused-done}
 use native.Mathlib.Omega.{arith}
-use borrow.Author.Rules.{rules}
 use Rattle.master_plans.proofs.del_by_move.Goals as goal
 
 pub returns-then-bad_root : goal.returns-then-bad_root

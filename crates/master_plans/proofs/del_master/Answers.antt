@@ -5,7 +5,6 @@ use Rattle.schema.proofs.GuaranteeLaws.{lies}
 use Rattle.master_plans.specs.DelLaws.{del_points, del_no_points}
 use Rattle.plans.proofs.MadeLaws.{refused-status, refused_none}
 use Rattle.terms.specs.Laws.{refused-done}
-use borrow.Author.Rules.{rules}
 use Rattle.master_plans.proofs.del_master.Goals as goal
 
 pub returns-then-has_points : goal.returns-then-has_points

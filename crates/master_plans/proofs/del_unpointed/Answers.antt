@@ -1,7 +1,5 @@
 -- `master_plans::del_unpointed` meets its contract: after the tests the synonym moves or the record is unlinked. Assumes nothing.
 use mathlib.Core.Path.{◌≡◌, refl, ◌∙◌}
-use mathlib.Core.Bool.{Bool, not, ◌&&◌, ◌||◌}
-use lib.Dec.{eqb}
 use Rattle.masters.specs.Root.{synonym_moves}
 use Rattle.master_plans.specs.Shape.{neighbours_damaged}
 use Rattle.schema.proofs.PlaceLaws.{lies_most}
@@ -10,7 +8,6 @@ use Rattle.master_plans.specs.DelLaws.{neighbours_tested, move_test, del_damaged
 use Rattle.plans.proofs.MadeLaws.{refused-status, refused_none, none-refused}
 use Rattle.terms.specs.Laws.{refused-done}
 use native.Mathlib.Omega.{arith}
-use borrow.Author.Rules.{rules}
 use Rattle.master_plans.proofs.del_unpointed.Goals as goal
 
 pub returns-then-r-h : goal.returns-then-r-h

@@ -1,11 +1,9 @@
 -- `master_plans::empty_in` meets its contract. The invariant: the answer for the paths passed. Assumes nothing.
 use Prim.Native.Nat.{◌-◌, ◌≤◌}
-use mathlib.Core.Path.{◌≡◌, ap, ◌∙◌}
+use mathlib.Core.Path.{◌≡◌}
 use Rattle.octets.specs.Below.{all_below}
-use Rattle.octets.specs.BelowLaws.{joined, joined-all}
 use Rattle.schema.specs.Decode.{path_of}
 use Rattle.master_plans.specs.Shape.{empty_on}
-use borrow.Author.Rules.{rules}
 use Rattle.master_plans.proofs.empty_in.Given as goal
 
 abbrev pub invariant-loop-j : goal.invariant-loop-j

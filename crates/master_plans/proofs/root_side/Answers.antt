@@ -2,7 +2,6 @@
 use mathlib.Core.Path.{refl}
 use native.Mathlib.Omega.{arith}
 use Rattle.master_plans.specs.ShapeLaws.{one_longer_none, side-word, side_record}
-use borrow.Author.Rules.{rules}
 use Rattle.master_plans.proofs.root_side.Goals as goal
 
 pub returns-then-r-eq0 : goal.returns-then-r-eq0

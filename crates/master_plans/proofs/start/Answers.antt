@@ -1,7 +1,6 @@
 -- `master_plans::start` meets its contract: the plan is a head alone. Assumes nothing.
 use mathlib.Core.Path.{refl}
 use native.Mathlib.Omega.{arith}
-use borrow.Author.Rules.{rules}
 use Rattle.plans.specs.Stores.{word_stores}
 use Rattle.master_plans.proofs.start.Goals as goal
 

@@ -1,6 +1,5 @@
 -- `names::set_named` meets its contract: the four characters are one word.
 use Rattle.schema.specs.Naming.{set_named}
-use borrow.Author.Rules.{rules}
 use Rattle.names.proofs.set_named.Goals as goal
 
 pub returns : goal.returns

@@ -1,5 +1,5 @@
-use Rattle.std.proofs.Common.{◌≡◌, ◌-◌, ◌≤◌, length, drop, sym, ◌∙◌, rules, eq-eqb, ne_eqb}
-use Rattle.octets.specs.Octets.{every, is}
+use Rattle.std.proofs.Common.{sym, ◌∙◌, rules, eq-eqb, ne_eqb}
+use Rattle.octets.specs.Octets.{is}
 use Rattle.octets.specs.RunLaws.{every_turn, every_fails, every_end}
 use Rattle.octets.proofs.all.Goals as goal
 

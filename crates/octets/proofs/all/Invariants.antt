@@ -1,7 +1,6 @@
 -- `octets::all` meets its contract. The invariant: what is left decides.
-use Rattle.std.proofs.Common.{◌≡◌, ◌-◌, ◌≤◌, length, drop, sym, ◌∙◌, rules, eq-eqb, ne_eqb}
+use Rattle.std.proofs.Common.{◌≡◌, ◌-◌, ◌≤◌, length, drop}
 use Rattle.octets.specs.Octets.{every, is}
-use Rattle.octets.specs.RunLaws.{every_turn, every_fails, every_end}
 use Rattle.octets.proofs.all.Given as goal
 
 abbrev pub invariant-loop-i : goal.invariant-loop-i

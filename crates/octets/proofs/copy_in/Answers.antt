@@ -1,4 +1,4 @@
-use Rattle.std.proofs.Common.{◌≡◌, ◌-◌, ◌≤◌, length, take, refl, ◌∙◌, arith, length-set, rules}
+use Rattle.std.proofs.Common.{◌≡◌, length, refl, ◌∙◌, arith, length-set}
 use lib.Seq.{take-length}
 use Rattle.octets.specs.Octets.{splice}
 use Rattle.octets.specs.SpliceLaws.{splice-turn}

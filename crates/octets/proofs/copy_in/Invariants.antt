@@ -1,8 +1,6 @@
 -- `octets::copy_in` meets its contract. The invariant: the first i bytes of src are stored.
-use Rattle.std.proofs.Common.{◌≡◌, ◌-◌, ◌≤◌, length, take, refl, ◌∙◌, arith, length-set, rules}
-use lib.Seq.{take-length}
+use Rattle.std.proofs.Common.{◌≡◌, ◌-◌, ◌≤◌, length, take}
 use Rattle.octets.specs.Octets.{splice}
-use Rattle.octets.specs.SpliceLaws.{splice-turn}
 use Rattle.octets.proofs.copy_in.Given as goal
 
 abbrev pub invariant-loop-i : goal.invariant-loop-i

@@ -1,6 +1,5 @@
 -- `octets::half` meets its contract: the bytes are read where the definition reads them.
 use Rattle.octets.specs.Octets.{half_at}
-use Rattle.std.proofs.Common.{rules}
 use Rattle.octets.proofs.half.Goals as goal
 
 pub returns : goal.returns

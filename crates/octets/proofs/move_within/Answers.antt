@@ -1,5 +1,5 @@
-use Rattle.std.proofs.Common.{◌≡◌, ◌-◌, ◌≤◌, length, refl, ◌∙◌, arith, length-set, rules}
-use Rattle.octets.specs.Octets.{run, splice}
+use Rattle.std.proofs.Common.{◌≡◌, refl, ◌∙◌, arith, length-set}
+use Rattle.octets.specs.Octets.{splice}
 use Rattle.octets.specs.SpliceLaws.{moved}
 use Rattle.octets.proofs.move_within.Goals as goal
 

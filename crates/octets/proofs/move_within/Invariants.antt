@@ -1,7 +1,6 @@
 -- `octets::move_within` meets its contract. The invariant: the first i bytes of the run are stored, and those to come are as they were.
-use Rattle.std.proofs.Common.{◌≡◌, ◌-◌, ◌≤◌, length, refl, ◌∙◌, arith, length-set, rules}
+use Rattle.std.proofs.Common.{◌≡◌, ◌-◌, ◌≤◌, length}
 use Rattle.octets.specs.Octets.{run, splice}
-use Rattle.octets.specs.SpliceLaws.{moved}
 use Rattle.octets.proofs.move_within.Given as goal
 
 abbrev pub invariant-loop-i : goal.invariant-loop-i

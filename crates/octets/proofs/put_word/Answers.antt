@@ -1,5 +1,5 @@
 -- `octets::put_word` meets its contract: the four stores are the splice of the word's bytes.
-use Rattle.std.proofs.Common.{arith, length-set, rules}
+use Rattle.std.proofs.Common.{arith, length-set}
 use Rattle.octets.specs.WordLaws.{stored}
 use Rattle.octets.proofs.put_word.Goals as goal
 

@@ -1,5 +1,4 @@
-use Rattle.std.proofs.Common.{◌≡◌, ◌-◌, ◌≤◌, length, drop, sym, ◌∙◌, arith, rules}
-use Rattle.octets.specs.Octets.{same_bytes}
+use Rattle.std.proofs.Common.{sym, ◌∙◌, arith, rules}
 use Rattle.octets.specs.RunLaws.{same_turn, same_fails, same_lengths, same_end}
 use Rattle.octets.proofs.same.Goals as goal
 

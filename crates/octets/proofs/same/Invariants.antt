@@ -1,7 +1,6 @@
 -- `octets::same` meets its contract. The invariant: what is left decides.
-use Rattle.std.proofs.Common.{◌≡◌, ◌-◌, ◌≤◌, length, drop, sym, ◌∙◌, arith, rules}
+use Rattle.std.proofs.Common.{◌≡◌, ◌-◌, ◌≤◌, length, drop}
 use Rattle.octets.specs.Octets.{same_bytes}
-use Rattle.octets.specs.RunLaws.{same_turn, same_fails, same_lengths, same_end}
 use Rattle.octets.proofs.same.Given as goal
 
 abbrev pub invariant-loop-i : goal.invariant-loop-i

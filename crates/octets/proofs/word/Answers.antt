@@ -1,6 +1,5 @@
 -- `octets::word` meets its contract: the bytes are read where the definition reads them.
 use Rattle.octets.specs.Octets.{word_at}
-use Rattle.std.proofs.Common.{rules}
 use Rattle.octets.proofs.word.Goals as goal
 
 pub returns : goal.returns

@@ -1,5 +1,4 @@
-use Rattle.std.proofs.Common.{◌≡◌, ◌-◌, ◌≤◌, length, drop, sym, ◌∙◌, arith, rules}
-use Rattle.octets.specs.Octets.{sum_onto}
+use Rattle.std.proofs.Common.{sym, ◌∙◌, arith}
 use Rattle.octets.specs.RunLaws.{sum_turn, sum_end}
 use Rattle.octets.proofs.word_sum.Goals as goal
 

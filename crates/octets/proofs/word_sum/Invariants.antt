@@ -1,7 +1,6 @@
 -- `octets::word_sum` meets its contract. The invariant: what is left, summed onto the sum so far, is the whole sum.
-use Rattle.std.proofs.Common.{◌≡◌, ◌-◌, ◌≤◌, length, drop, sym, ◌∙◌, arith, rules}
+use Rattle.std.proofs.Common.{◌≡◌, ◌-◌, ◌≤◌, length, drop}
 use Rattle.octets.specs.Octets.{sum_onto}
-use Rattle.octets.specs.RunLaws.{sum_turn, sum_end}
 use Rattle.octets.proofs.word_sum.Given as goal
 
 abbrev pub invariant-loop-i : goal.invariant-loop-i

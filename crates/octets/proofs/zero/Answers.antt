@@ -1,5 +1,5 @@
-use Rattle.std.proofs.Common.{◌≡◌, ◌-◌, ◌≤◌, length, refl, ◌∙◌, arith, length-set, rules}
-use Rattle.octets.specs.Octets.{splice, zeros}
+use Rattle.std.proofs.Common.{◌≡◌, refl, ◌∙◌, arith, length-set}
+use Rattle.octets.specs.Octets.{splice}
 use Rattle.octets.specs.SpliceLaws.{splice_fill}
 use Rattle.octets.proofs.zero.Goals as goal
 

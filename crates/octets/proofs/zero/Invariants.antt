@@ -1,7 +1,6 @@
 -- `octets::zero` meets its contract. The invariant: i zeros are stored.
-use Rattle.std.proofs.Common.{◌≡◌, ◌-◌, ◌≤◌, length, refl, ◌∙◌, arith, length-set, rules}
+use Rattle.std.proofs.Common.{◌≡◌, ◌-◌, ◌≤◌, length}
 use Rattle.octets.specs.Octets.{splice, zeros}
-use Rattle.octets.specs.SpliceLaws.{splice_fill}
 use Rattle.octets.proofs.zero.Given as goal
 
 abbrev pub invariant-loop-i : goal.invariant-loop-i

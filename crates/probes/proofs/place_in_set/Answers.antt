@@ -1,6 +1,5 @@
 use Rattle.probes.specs.ProbeLaws.{set_low, set_high, set_at}
 use mathlib.Core.Path.{◌∙◌}
-use borrow.Author.Rules.{rules}
 use Rattle.probes.proofs.place_in_set.Goals as goal
 
 pub returns-then-number-lt1 : goal.returns-then-number-lt1

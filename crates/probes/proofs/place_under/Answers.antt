@@ -1,5 +1,4 @@
 use Rattle.probes.specs.ProbeLaws.{under_none, lies-found, under-found}
-use borrow.Author.Rules.{rules}
 use Rattle.probes.proofs.place_under.Goals as goal
 
 pub returns-then-sets-entry : goal.returns-then-sets-entry

@@ -1,5 +1,4 @@
 use Rattle.probes.specs.ProbeLaws.{seal-refused, seal-done}
-use borrow.Author.Rules.{rules}
 use Rattle.probes.proofs.yarugota_block_seal.Goals as goal
 
 pub returns-then-block-ne512 : goal.returns-then-block-ne512

@@ -1,6 +1,5 @@
 use Rattle.probes.specs.ProbeLaws.{sealed-length, sealed_false, sealed_true}
 use mathlib.Core.Path.{sym, ◌∙◌}
-use borrow.Author.Rules.{rules}
 use Rattle.probes.proofs.yarugota_block_sealed.Goals as goal
 
 pub returns-then-block-ne512 : goal.returns-then-block-ne512

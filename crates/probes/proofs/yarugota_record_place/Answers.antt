@@ -1,6 +1,5 @@
 use Rattle.probes.specs.ProbeLaws.{decoded_good, place-some, place_none}
 use mathlib.Core.Path.{◌∙◌}
-use borrow.Author.Rules.{rules}
 use Rattle.probes.proofs.yarugota_record_place.Goals as goal
 
 pub place_under-requires : goal.place_under-requires

@@ -1,5 +1,4 @@
 use Rattle.probes.specs.ProbeLaws.{blocks-some, blocks-none}
-use borrow.Author.Rules.{rules}
 use Rattle.probes.proofs.yarugota_schema_blocks.Goals as goal
 
 pub returns-then-d : goal.returns-then-d

@@ -2,7 +2,6 @@
 use mathlib.Core.Bool.{not}
 use mathlib.Core.Path.{ap}
 use Rattle.rules.specs.RulesLaws.{clash-none, clash-some}
-use borrow.Author.Rules.{rules}
 use Rattle.rules.proofs.clashes.Goals as goal
 
 pub returns-then-not-used : goal.returns-then-not-used

@@ -1,6 +1,5 @@
 -- `rules::count` meets its contract: R's two bounds.
 use Rattle.schema.specs.Rules.{records_rule}
-use borrow.Author.Rules.{rules}
 use Rattle.rules.proofs.count.Goals as goal
 
 pub returns : goal.returns

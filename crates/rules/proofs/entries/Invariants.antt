@@ -2,9 +2,7 @@
 use Prim.Native.Nat.{◌-◌, ◌≤◌}
 use mathlib.Core.Path.{◌≡◌}
 use Rattle.octets.specs.Below.{all_below}
-use Rattle.octets.specs.BelowLaws.{joined, joined-all}
 use Rattle.schema.specs.Rules.{entry_rule}
-use borrow.Author.Rules.{rules}
 use Rattle.rules.proofs.entries.Given as goal
 
 abbrev pub invariant-loop-i : goal.invariant-loop-i

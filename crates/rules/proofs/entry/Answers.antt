@@ -1,7 +1,6 @@
 -- `rules::entry` meets its contract: a used entry keeps the rules for a set, and any other is zero.
 use borrow.Author.Tests.{lt-ltb, le-ltb}
 use Rattle.schema.specs.Rules.{entry_rule}
-use borrow.Author.Rules.{rules}
 use Rattle.rules.proofs.entry.Goals as goal
 
 pub returns-then-i-sets : goal.returns-then-i-sets

@@ -2,7 +2,6 @@
 use mathlib.Core.Bool.{not}
 use mathlib.Core.Path.{ap}
 use Rattle.rules.specs.RulesLaws.{form-short, form-refused, form_body, few_sets}
-use borrow.Author.Rules.{rules}
 use Rattle.rules.proofs.form.Goals as goal
 
 pub returns-then-s-ne512 : goal.returns-then-s-ne512

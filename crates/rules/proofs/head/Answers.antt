@@ -1,6 +1,5 @@
 -- `rules::head` meets its contract: its four tests, joined.
 use Rattle.schema.specs.Rules.{head_rule}
-use borrow.Author.Rules.{rules}
 use Rattle.rules.proofs.head.Goals as goal
 
 pub returns : goal.returns

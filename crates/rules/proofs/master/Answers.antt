@@ -1,7 +1,6 @@
 -- `rules::master` meets its contract: its three tests, joined.
 use mathlib.Core.Path.{refl}
 use Rattle.schema.specs.Rules.{master_rule}
-use borrow.Author.Rules.{rules}
 use Rattle.rules.proofs.master.Goals as goal
 
 pub returns : goal.returns

@@ -1,6 +1,5 @@
 -- `rules::name` meets its contract: the four characters, joined.
 use Rattle.schema.specs.Rules.{name_rule}
-use borrow.Author.Rules.{rules}
 use Rattle.rules.proofs.name.Goals as goal
 
 pub returns : goal.returns

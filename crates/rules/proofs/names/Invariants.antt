@@ -2,10 +2,7 @@
 use Prim.Native.Nat.{◌-◌, ◌≤◌}
 use mathlib.Core.Path.{◌≡◌}
 use Rattle.octets.specs.Below.{all_below}
-use Rattle.octets.specs.BelowLaws.{joined, joined-all}
-use Rattle.schema.specs.Rules.{names_rule}
 use Rattle.rules.specs.Parts.{older}
-use borrow.Author.Rules.{rules}
 use Rattle.rules.proofs.names.Given as goal
 
 abbrev pub invariant-loop-k : goal.invariant-loop-k

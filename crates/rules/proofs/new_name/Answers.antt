@@ -1,6 +1,5 @@
-use Prim.Native.Nat.{◌-◌, ◌≤◌}
 use mathlib.Core.Bool.{not}
-use mathlib.Core.Path.{◌≡◌, ap}
+use mathlib.Core.Path.{ap}
 use Rattle.octets.specs.Below.{all_below}
 use Rattle.octets.specs.BelowLaws.{joined, joined-all}
 use Rattle.rules.specs.Parts.{older}

@@ -1,11 +1,8 @@
 -- `rules::new_name` meets its contract. The invariant: the entries passed have not entry k's name.
 use Prim.Native.Nat.{◌-◌, ◌≤◌}
-use mathlib.Core.Bool.{not}
-use mathlib.Core.Path.{◌≡◌, ap}
+use mathlib.Core.Path.{◌≡◌}
 use Rattle.octets.specs.Below.{all_below}
-use Rattle.octets.specs.BelowLaws.{joined, joined-all}
 use Rattle.rules.specs.Parts.{older}
-use borrow.Author.Rules.{rules}
 use Rattle.rules.proofs.new_name.Given as goal
 
 abbrev pub invariant-loop-i : goal.invariant-loop-i

@@ -1,6 +1,5 @@
 -- `rules::path` meets its contract: its four tests, joined.
 use Rattle.schema.specs.Rules.{path_rule}
-use borrow.Author.Rules.{rules}
 use Rattle.rules.proofs.path.Goals as goal
 
 pub returns : goal.returns

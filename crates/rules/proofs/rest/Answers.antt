@@ -1,6 +1,5 @@
 -- `rules::rest` meets its contract: the run of zeros.
 use Rattle.schema.specs.Rules.{rest_rule}
-use borrow.Author.Rules.{rules}
 use Rattle.rules.proofs.rest.Goals as goal
 
 pub returns : goal.returns

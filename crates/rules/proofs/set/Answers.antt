@@ -1,6 +1,5 @@
 -- `rules::set` meets its contract: its five rules, joined.
 use Rattle.schema.specs.Rules.{set_rule}
-use borrow.Author.Rules.{rules}
 use Rattle.rules.proofs.set.Goals as goal
 
 pub returns : goal.returns

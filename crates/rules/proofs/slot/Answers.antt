@@ -1,7 +1,6 @@
 -- `rules::slot` meets its contract: a used slot keeps the rule for a path, and any other is zero.
 use borrow.Author.Tests.{lt-ltb, le-ltb}
 use Rattle.schema.specs.Rules.{slot_rule}
-use borrow.Author.Rules.{rules}
 use Rattle.rules.proofs.slot.Goals as goal
 
 pub returns-then-j-paths : goal.returns-then-j-paths

@@ -1,7 +1,6 @@
 -- `rules::variable` meets its contract: its three tests, joined.
 use mathlib.Core.Path.{refl}
 use Rattle.schema.specs.Rules.{variable_rule}
-use borrow.Author.Rules.{rules}
 use Rattle.rules.proofs.variable.Goals as goal
 
 pub returns : goal.returns

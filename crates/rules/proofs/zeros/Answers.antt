@@ -1,7 +1,6 @@
-use Prim.Native.Nat.{◌-◌, ◌≤◌}
 use mathlib.Core.Path.{◌≡◌}
 use native.Mathlib.Omega.{arith}
-use Rattle.octets.specs.Octets.{every, run, all_zero}
+use Rattle.octets.specs.Octets.{every}
 use Rattle.rules.specs.RulesLaws.{zeros-turn}
 use borrow.Author.Rules.{rules}
 use Rattle.rules.proofs.zeros.Goals as goal

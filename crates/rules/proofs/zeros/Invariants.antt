@@ -1,10 +1,7 @@
 -- `rules::zeros` meets its contract. The invariant: the bytes passed are zero, or not.
 use Prim.Native.Nat.{◌-◌, ◌≤◌}
 use mathlib.Core.Path.{◌≡◌}
-use native.Mathlib.Omega.{arith}
-use Rattle.octets.specs.Octets.{every, run, all_zero}
-use Rattle.rules.specs.RulesLaws.{zeros-turn}
-use borrow.Author.Rules.{rules}
+use Rattle.octets.specs.Octets.{run, all_zero}
 use Rattle.rules.proofs.zeros.Given as goal
 
 abbrev pub invariant-loop-i : goal.invariant-loop-i

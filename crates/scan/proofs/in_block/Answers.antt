@@ -1,16 +1,14 @@
-use Prim.Native.Nat.{◌+◌, ◌*◌, ◌-◌, ◌≤◌}
+use Prim.Native.Nat.{◌+◌, ◌-◌, ◌≤◌}
 use mathlib.Core.Path.{◌≡◌, sym, ◌∙◌}
-use mathlib.Core.Bool.{Bool, true, false, beq}
+use mathlib.Core.Bool.{true, false}
 use native.Mathlib.Omega.{arith}
 use native.Mathlib.Nat.{mul-le-mul_right, sub-zero}
 use lib.Dec.{eqb}
 use lib.ListN.{length}
 use Rattle.octets.specs.Octets.{byte_at}
-use Rattle.octets.specs.Below.{lowest_from}
 use Rattle.octets.specs.BelowLaws.{lowest_from-turn, lowest_from_hit, lowest_from_end}
 use Rattle.scan.specs.Wanted.{wanted_in}
 use Rattle.scan.specs.ScanLaws.{wanted-is}
-use borrow.Author.Rules.{rules}
 use Rattle.scan.proofs.in_block.Goals as goal
 
 pub loop-i-init : goal.loop-i-init

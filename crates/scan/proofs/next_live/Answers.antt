@@ -2,7 +2,6 @@
 use Prim.Native.Nat.{◌+◌, ◌-◌}
 use mathlib.Core.Path.{sym}
 use native.Mathlib.Omega.{arith}
-use borrow.Author.Rules.{rules}
 use Rattle.octets.specs.BelowLaws.{lowest_from_end}
 use Rattle.records.specs.Records.{is_live}
 use Rattle.scan.proofs.next_live.Goals as goal

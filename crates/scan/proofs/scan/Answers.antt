@@ -1,9 +1,8 @@
-use Prim.Native.Nat.{ℕ, ◌+◌, ◌*◌, ◌-◌, ◌≤◌, ◌<◌}
+use Prim.Native.Nat.{ℕ, ◌+◌, ◌*◌, ◌-◌, ◌≤◌}
 use mathlib.Core.Path.{◌≡◌, refl, sym, ap, ◌∙◌}
 use native.Mathlib.Omega.{arith}
 use lib.ListN.{length}
 use Rattle.octets.specs.SpliceLaws.{length_run}
-use Rattle.octets.specs.Below.{lowest_from}
 use Rattle.octets.specs.BelowLaws.{lowest_from_end}
 use Rattle.schema.specs.Place.{stretch_from}
 use Rattle.schema.proofs.PlaceLaws.{some-held, few-held, stretch_inside, stretch_next}

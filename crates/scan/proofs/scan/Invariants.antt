@@ -1,17 +1,10 @@
 -- `scan::scan` meets its contract. The invariant: while records are left, `s` are the next of them that lie in one block, and the
 -- records not passed yet decide. Assumes nothing.
-use Prim.Native.Nat.{ℕ, ◌+◌, ◌*◌, ◌-◌, ◌≤◌, ◌<◌}
-use mathlib.Core.Path.{◌≡◌, refl, sym, ap, ◌∙◌}
-use native.Mathlib.Omega.{arith}
-use lib.ListN.{length}
-use Rattle.octets.specs.SpliceLaws.{length_run}
+use Prim.Native.Nat.{◌+◌, ◌-◌, ◌≤◌, ◌<◌}
+use mathlib.Core.Path.{◌≡◌}
 use Rattle.octets.specs.Below.{lowest_from}
-use Rattle.octets.specs.BelowLaws.{lowest_from_end}
 use Rattle.schema.specs.Place.{stretch_from}
-use Rattle.schema.proofs.PlaceLaws.{some-held, few-held, stretch_inside, stretch_next}
 use Rattle.scan.specs.Wanted.{wanted}
-use Rattle.scan.specs.ScanLaws.{scan_hit, scan_miss}
-use borrow.Author.Rules.{rules}
 use Rattle.scan.proofs.scan.Given as goal
 
 abbrev pub invariant-loop-passed : goal.invariant-loop-passed

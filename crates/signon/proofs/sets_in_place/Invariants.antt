@@ -1,14 +1,10 @@
 -- `signon::sets_in_place` meets its contract. The invariant: the sets passed are in place.
 use Prim.Native.Nat.{◌-◌, ◌≤◌}
-use mathlib.Core.Path.{◌≡◌, refl}
+use mathlib.Core.Path.{◌≡◌}
 use mathlib.Core.Bool.{true}
-use native.Mathlib.Omega.{arith}
 use Rattle.octets.specs.Below.{all_below}
 use Rattle.schema.specs.Decode.{set_count}
-use Rattle.clean.specs.CleanLaws.{passes, fails, ends}
-use Rattle.signon.specs.SignOnLaws.{set_read}
 use Rattle.signon.specs.Judged.{set_placed}
-use borrow.Author.Rules.{rules}
 use Rattle.signon.proofs.sets_in_place.Given as goal
 
 abbrev pub invariant-loop-i : goal.invariant-loop-i

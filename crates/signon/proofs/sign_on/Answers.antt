@@ -7,7 +7,6 @@ use Rattle.sound.specs.Sound.{checks_true}
 use Rattle.sound.specs.Linear.{in_place}
 use Rattle.clean.specs.CleanLaws.{stops, goes_on}
 use Rattle.signon.specs.Judged.{set_placed}
-use borrow.Author.Rules.{rules}
 use Rattle.signon.proofs.sign_on.Goals as goal
 
 pub returns-then-not-checks_true : goal.returns-then-not-checks_true

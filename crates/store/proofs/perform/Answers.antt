@@ -4,7 +4,6 @@ use Rattle.store.specs.KindsLaws.{master-known, point-known}
 use mathlib.Core.Path.{◌≡◌, refl, ap}
 use native.Mathlib.Omega.{arith}
 use Rattle.store.specs.DecideLaws.{told-kind, decides_unknown, decides_format, decides_sign_on, decides_behind, decides_path}
-use borrow.Author.Rules.{rules}
 use Rattle.store.proofs.perform.Goals as goal
 
 pub format-requires : goal.format-requires

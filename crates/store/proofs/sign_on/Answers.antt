@@ -1,5 +1,4 @@
 use Rattle.sound.proofs.LinearLaws.{in_place-sound}
-use borrow.Author.Rules.{rules}
 use Rattle.store.proofs.sign_on.Goals as goal
 
 pub sign_on-requires : goal.sign_on-requires

@@ -2,7 +2,6 @@
 use mathlib.Core.Path.{sym, ap, ◌∙◌}
 use native.Mathlib.Omega.{arith}
 use Rattle.store.specs.DecideLaws.{decides_size}
-use borrow.Author.Rules.{rules}
 use Rattle.store.proofs.under.Goals as goal
 
 pub returns-then-base-length_of : goal.returns-then-base-length_of

@@ -1,6 +1,5 @@
 use mathlib.Core.Path.{ap, ◌∙◌}
 use native.Mathlib.Omega.{arith}
-use borrow.Author.Rules.{rules}
 use Rattle.records.proofs.InBaseLaws.{set_in_lem}
 use Rattle.calls.specs.Reply.{or_none}
 use Rattle.sweep.specs.SweptLaws.{none_within, sweep-ends}

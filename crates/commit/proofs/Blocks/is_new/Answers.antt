@@ -1,9 +1,7 @@
-use Prim.Native.Nat.{◌-◌, ◌≤◌}
 use mathlib.Core.Path.{◌≡◌, ap, sym, ◌∙◌}
 use mathlib.Core.Bool.{false, not}
 use native.Mathlib.Omega.{arith}
-use lib.ListN.{length, drop, length-map}
-use borrow.Author.Rules.{rules}
+use lib.ListN.{length, drop}
 use borrow.Author.Tests.{eq-eqb, ne_eqb}
 use Rattle.commit.specs.Touched.{is_other, is_new, numbers_of}
 use Rattle.commit.specs.TouchedLaws.{blocks-turn, blocks_fail, blocks_end}

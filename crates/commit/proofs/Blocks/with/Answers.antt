@@ -1,8 +1,7 @@
 -- `commit::Blocks::with` meets its contract: a new number stands behind the others. Assumes nothing.
 use mathlib.Core.Path.{◌≡◌, sym, ◌∙◌}
 use native.Mathlib.Omega.{arith}
-use lib.ListN.{length, length-map}
-use borrow.Author.Rules.{rules}
+use lib.ListN.{length}
 use Rattle.commit.specs.TouchedLaws.{block_added, block_known}
 use Rattle.commit.proofs.Blocks.with.Goals as goal
 

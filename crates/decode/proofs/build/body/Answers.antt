@@ -1,7 +1,6 @@
 -- `decode::build::body` meets its contract: a master's D bytes stand behind its linkage fields, a variable's behind its last path.
 use native.Mathlib.Omega.{arith}
 use Rattle.decode.specs.DecodeLaws.{body_of_master, body_of_variable}
-use borrow.Author.Rules.{rules}
 use Rattle.decode.proofs.build.body.Goals as goal
 
 pub returns-then-i-masters : goal.returns-then-i-masters

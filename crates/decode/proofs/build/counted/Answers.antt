@@ -1,8 +1,7 @@
-use Prim.Native.Nat.{◌*◌, ◌-◌, ◌≤◌}
+use Prim.Native.Nat.{◌*◌}
 use mathlib.Core.Path.{◌≡◌}
 use native.Mathlib.Omega.{arith}
 use Rattle.decode.specs.DecodeLaws.{counted_none}
-use Rattle.decode.specs.Decoding.{Counted}
 use borrow.Author.Rules.{rules}
 use Rattle.decode.proofs.build.counted.Goals as goal
 

@@ -1,10 +1,6 @@
 -- `decode::build::counted` meets its contract. The invariant: the paths in the slots passed are counted.
-use Prim.Native.Nat.{◌*◌, ◌-◌, ◌≤◌}
-use mathlib.Core.Path.{◌≡◌}
-use native.Mathlib.Omega.{arith}
-use Rattle.decode.specs.DecodeLaws.{counted_none}
+use Prim.Native.Nat.{◌-◌, ◌≤◌}
 use Rattle.decode.specs.Decoding.{Counted}
-use borrow.Author.Rules.{rules}
 use Rattle.decode.proofs.build.counted.Given as goal
 
 abbrev pub invariant-loop-q : goal.invariant-loop-q

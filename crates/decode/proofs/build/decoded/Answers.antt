@@ -1,6 +1,5 @@
 -- `decode::build::decoded` meets its contract: the form's rules give what the callees require.
 use Rattle.schema.proofs.FormFacts.{formed}
-use borrow.Author.Rules.{rules}
 use Rattle.decode.proofs.build.decoded.Goals as goal
 
 pub counted-l-requires : goal.counted-l-requires

@@ -1,11 +1,7 @@
 -- `decode::build::key_place` meets its contract. The invariant: where path k's key stands, with a bound that fits.
 use Prim.Native.Nat.{◌+◌, ◌*◌, ◌-◌, ◌≤◌}
 use mathlib.Core.Path.{◌≡◌}
-use native.Mathlib.Omega.{arith}
-use Rattle.octets.specs.Below.{sum_below}
-use Rattle.decode.specs.DecodeLaws.{path_at, key_place-turn}
 use Rattle.schema.specs.Layout.{key_place}
-use borrow.Author.Rules.{rules}
 use Rattle.decode.proofs.build.key_place.Given as goal
 
 abbrev pub invariant-loop-k : goal.invariant-loop-k

@@ -1,4 +1,3 @@
-use Prim.Native.Nat.{◌-◌, ◌≤◌}
 use mathlib.Core.Path.{◌≡◌}
 use native.Mathlib.Omega.{arith}
 use Rattle.decode.specs.DecodeLaws.{LaidOut, laid_none, laid_next, laid-all, blocks_ready, too_long, too_many}

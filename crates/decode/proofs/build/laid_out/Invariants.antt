@@ -1,10 +1,6 @@
 -- `decode::build::laid_out` meets its contract. The invariant: the sets passed are laid out, and none has too long a record.
 use Prim.Native.Nat.{◌-◌, ◌≤◌}
-use mathlib.Core.Path.{◌≡◌}
-use native.Mathlib.Omega.{arith}
-use Rattle.decode.specs.DecodeLaws.{LaidOut, laid_none, laid_next, laid-all, blocks_ready, too_long, too_many}
-use Rattle.schema.specs.Fields.{sets_of}
-use borrow.Author.Rules.{rules}
+use Rattle.decode.specs.DecodeLaws.{LaidOut}
 use Rattle.decode.proofs.build.laid_out.Given as goal
 
 abbrev pub invariant-loop-i : goal.invariant-loop-i

@@ -1,6 +1,5 @@
 -- `decode::build::path` meets its contract: the fields of the slot, with its two places.
 use Rattle.schema.specs.Layout.{link_place}
-use borrow.Author.Rules.{rules}
 use Rattle.decode.proofs.build.path.Goals as goal
 
 pub returns : goal.returns

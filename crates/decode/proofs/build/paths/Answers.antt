@@ -1,10 +1,8 @@
-use Prim.Native.Nat.{◌-◌, ◌≤◌, ◌<◌}
+use Prim.Native.Nat.{◌<◌}
 use mathlib.Core.Path.{◌≡◌, refl}
 use native.Mathlib.Omega.{arith}
-use lib.ListN.{length}
-use Rattle.octets.specs.Below.{upto}
 use Rattle.schema.specs.Fields.{count_of}
-use Rattle.decode.specs.DecodeLaws.{filled, fill_next, path_at, path_number}
+use Rattle.decode.specs.DecodeLaws.{fill_next, path_at, path_number}
 use Rattle.schema.specs.Decode.{empty_path, path_from, full_path}
 use borrow.Author.Rules.{rules}
 use Rattle.decode.proofs.build.paths.Goals as goal

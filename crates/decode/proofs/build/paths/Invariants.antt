@@ -1,13 +1,10 @@
 -- `decode::build::paths` meets its contract. The invariant: the slots passed are filled, the others empty.
 use Prim.Native.Nat.{◌-◌, ◌≤◌, ◌<◌}
-use mathlib.Core.Path.{◌≡◌, refl}
-use native.Mathlib.Omega.{arith}
+use mathlib.Core.Path.{◌≡◌}
 use lib.ListN.{length}
 use Rattle.octets.specs.Below.{upto}
-use Rattle.schema.specs.Fields.{count_of}
-use Rattle.decode.specs.DecodeLaws.{filled, fill_next, path_at, path_number}
-use Rattle.schema.specs.Decode.{empty_path, path_from, full_path}
-use borrow.Author.Rules.{rules}
+use Rattle.decode.specs.DecodeLaws.{filled}
+use Rattle.schema.specs.Decode.{empty_path, full_path}
 use Rattle.decode.proofs.build.paths.Given as goal
 
 abbrev pub invariant-loop-j : goal.invariant-loop-j

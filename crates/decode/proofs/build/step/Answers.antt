@@ -6,7 +6,6 @@ use native.Mathlib.Omega.{arith}
 use borrow.Author.Tests.{not-false}
 use Rattle.decode.specs.DecodeLaws.{slot-master, links_le, counted_unused, counted-used}
 use Rattle.schema.specs.Rules.{is_path_slot}
-use borrow.Author.Rules.{rules}
 use Rattle.decode.proofs.build.step.Goals as goal
 
 pub returns-then-not-used : goal.returns-then-not-used

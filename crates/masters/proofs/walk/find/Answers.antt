@@ -1,9 +1,7 @@
 -- `masters::walk::find` meets its contract: with the home not held by one of its own the key is missing, else the walk from there
 -- decides. Assumes nothing.
 use mathlib.Core.Path.{◌≡◌, sym, ◌∙◌}
-use mathlib.Core.Bool.{Bool, true, false}
-use borrow.Author.Rules.{rules}
-use borrow.Author.Tests.{not-true, not-false}
+use mathlib.Core.Bool.{true, false}
 use Rattle.terms.specs.Terms.{key_of}
 use Rattle.schema.specs.Place.{InSet}
 use Rattle.masters.specs.Find.{home_in, held_by_own}

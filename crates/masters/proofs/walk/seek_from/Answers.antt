@@ -1,12 +1,11 @@
-use Prim.Native.Nat.{◌-◌, ◌≤◌}
 use mathlib.Core.Path.{◌≡◌, refl, sym, ap, ◌∙◌}
 use native.Mathlib.Omega.{arith}
 use native.Mathlib.Nat.{sub-zero}
 use borrow.Author.Rules.{rules}
 use Rattle.terms.specs.Terms.{key_of}
-use Rattle.masters.specs.Find.{seek, tail_from}
+use Rattle.masters.specs.Find.{seek}
 use Rattle.masters.specs.Walks.{resolve}
-use Rattle.masters.proofs.WalkLaws.{Onward, seek_on, tail_on, walk_turn, walk_ends, walk_goes}
+use Rattle.masters.proofs.WalkLaws.{Onward, seek_on, walk_turn, walk_ends, walk_goes}
 use Rattle.masters.proofs.walk.seek_from.Goals as goal
 
 pub loop-r-init : goal.loop-r-init

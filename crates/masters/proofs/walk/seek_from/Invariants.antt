@@ -1,14 +1,10 @@
 -- `masters::walk::seek_from` meets its contract. The invariant: from where the walk stands there is left to find what the whole search
 -- finds, and the chain ends where it ended from the home. The measure: what may still be visited. Assumes nothing.
 use Prim.Native.Nat.{◌-◌, ◌≤◌}
-use mathlib.Core.Path.{◌≡◌, refl, sym, ap, ◌∙◌}
-use native.Mathlib.Omega.{arith}
-use native.Mathlib.Nat.{sub-zero}
-use borrow.Author.Rules.{rules}
+use mathlib.Core.Path.{◌≡◌}
 use Rattle.terms.specs.Terms.{key_of}
 use Rattle.masters.specs.Find.{seek, tail_from}
-use Rattle.masters.specs.Walks.{resolve}
-use Rattle.masters.proofs.WalkLaws.{Onward, seek_on, tail_on, walk_turn, walk_ends, walk_goes}
+use Rattle.masters.proofs.WalkLaws.{seek_on, tail_on}
 use Rattle.masters.proofs.walk.seek_from.Given as goal
 
 abbrev pub invariant-loop-r : goal.invariant-loop-r

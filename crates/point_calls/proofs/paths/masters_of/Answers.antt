@@ -1,9 +1,6 @@
-use Prim.Native.Nat.{◌-◌, ◌≤◌}
 use mathlib.Core.Path.{◌≡◌, refl, ap, ◌∙◌}
 use native.Mathlib.Omega.{arith}
-use lib.ListN.{length, take}
 use borrow.Author.Rules.{rules}
-use Rattle.octets.specs.Below.{upto}
 use Rattle.octets.specs.BelowLaws.{fill_step}
 use Rattle.schema.specs.declared.Path.{Path}
 use Rattle.schema.specs.Decode.{no_entry, entry_of, masters_on}

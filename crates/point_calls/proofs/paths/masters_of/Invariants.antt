@@ -1,14 +1,9 @@
 -- `point_calls::paths::masters_of` meets its contract. The invariant: the masters of the paths passed are kept.
 use Prim.Native.Nat.{◌-◌, ◌≤◌}
-use mathlib.Core.Path.{◌≡◌, refl, ap, ◌∙◌}
-use native.Mathlib.Omega.{arith}
+use mathlib.Core.Path.{◌≡◌}
 use lib.ListN.{length, take}
-use borrow.Author.Rules.{rules}
 use Rattle.octets.specs.Below.{upto}
-use Rattle.octets.specs.BelowLaws.{fill_step}
-use Rattle.schema.specs.declared.Path.{Path}
-use Rattle.schema.specs.Decode.{no_entry, entry_of, masters_on}
-use Rattle.point_plans.specs.PathLaws.{filled_at}
+use Rattle.schema.specs.Decode.{masters_on}
 use Rattle.point_calls.proofs.paths.masters_of.Given as goal
 
 abbrev pub invariant-loop-k : goal.invariant-loop-k

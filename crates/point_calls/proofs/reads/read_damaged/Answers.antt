@@ -7,7 +7,6 @@ use Rattle.schema.proofs.PlaceLaws.{record_length}
 use Rattle.points.specs.Chains.{read_damaged}
 use Rattle.point_plans.specs.Paths.{uneven_at}
 use Rattle.point_plans.specs.DamageLaws.{uneven_from}
-use borrow.Author.Rules.{rules}
 use Rattle.point_calls.proofs.reads.read_damaged.Goals as goal
 
 pub uneven_ends-uneven-requires : goal.uneven_ends-uneven-requires

@@ -1,7 +1,5 @@
 use mathlib.Core.Path.{refl, sym, ◌∙◌}
-use borrow.Author.Tests.{not-true, not-false}
 use Rattle.point_calls.specs.OnPath.{seek_status}
-use borrow.Author.Rules.{rules}
 use Rattle.point_calls.proofs.sight.seek.Goals as goal
 
 pub returns-then-not-looks : goal.returns-then-not-looks

@@ -3,7 +3,6 @@ use native.Mathlib.Omega.{arith}
 use Rattle.point_calls.specs.SeekLaws.{seen, seen_as, by-seek-among}
 use Rattle.point_calls.specs.StoreLaws.{add-call, add-finds, add-ends}
 use Rattle.records.proofs.InBaseLaws.{reached-under, on-among, paths_in}
-use borrow.Author.Rules.{rules}
 use Rattle.point_calls.proofs.writes.add_at.Goals as goal
 
 pub of-k-requires : goal.of-k-requires

@@ -5,7 +5,6 @@ use Rattle.point_calls.specs.PathLaws.{delvd-call}
 use Rattle.point_calls.specs.SeekLaws.{seen, by-seek-among}
 use Rattle.point_calls.specs.StoreLaws.{delvd-finds, delvd-ends}
 use Rattle.records.proofs.InBaseLaws.{reached-under, on-among, paths_in}
-use borrow.Author.Rules.{rules}
 use Rattle.point_calls.proofs.writes.delvd.Goals as goal
 
 pub of-k-requires : goal.of-k-requires

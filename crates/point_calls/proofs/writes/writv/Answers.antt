@@ -5,7 +5,6 @@ use Rattle.point_calls.specs.SeekLaws.{seen, by-seek}
 use Rattle.point_calls.specs.StoreLaws.{writv-refused, writv-ends}
 use Rattle.records.proofs.InBaseLaws.{reached}
 use native.Mathlib.Omega.{arith}
-use borrow.Author.Rules.{rules}
 use Rattle.point_calls.proofs.writes.writv.Goals as goal
 
 pub of-k-requires : goal.of-k-requires

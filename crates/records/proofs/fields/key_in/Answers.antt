@@ -8,7 +8,6 @@ use Rattle.octets.specs.SpliceLaws.{run_run}
 use Rattle.terms.specs.Terms.{key_from}
 use Rattle.schema.specs.Place.{place_of}
 use Rattle.schema.proofs.PlaceLaws.{record_length}
-use borrow.Author.Rules.{rules}
 use Rattle.records.proofs.fields.key_in.Goals as goal
 
 pub part-requires : goal.part-requires

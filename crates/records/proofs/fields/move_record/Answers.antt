@@ -1,7 +1,6 @@
 -- `records::fields::move_record` meets its contract: both records lie within the data base, and they lie apart. Assumes nothing.
 use mathlib.Core.Path.{sym}
 use native.Mathlib.Omega.{arith}
-use borrow.Author.Rules.{rules}
 use Rattle.schema.proofs.PlaceLaws.{place_inside, records-apart}
 use Rattle.records.proofs.fields.move_record.Goals as goal
 

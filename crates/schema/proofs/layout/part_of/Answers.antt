@@ -2,7 +2,6 @@
 -- nothing.
 use native.Mathlib.Omega.{arith}
 use Rattle.schema.proofs.PlaceLaws.{place_in_block, place_inside}
-use borrow.Author.Rules.{rules}
 use Rattle.schema.proofs.layout.part_of.Goals as goal
 
 pub overflow_cast-result : goal.overflow_cast-result

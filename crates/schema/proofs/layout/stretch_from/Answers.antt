@@ -3,7 +3,6 @@ use Prim.Native.Nat.{◌-◌}
 use native.Mathlib.Omega.{arith}
 use native.Mathlib.Nat.{mod-lt}
 use Rattle.schema.proofs.PlaceLaws.{place_inside}
-use borrow.Author.Rules.{rules}
 use Rattle.schema.proofs.layout.stretch_from.Goals as goal
 
 pub overflow_cast-result : goal.overflow_cast-result

@@ -2,7 +2,6 @@
 use mathlib.Core.Bool.{not}
 use mathlib.Core.Path.{ap}
 use Rattle.signon.specs.HomeLaws.{place_blank, place_lost, place-next, place-prior}
-use borrow.Author.Rules.{rules}
 use Rattle.signon.proofs.on_masters.master_in_place.Goals as goal
 
 pub returns-then-is_blank : goal.returns-then-is_blank

@@ -3,10 +3,7 @@ use Prim.Native.Nat.{◌+◌, ◌-◌, ◌≤◌}
 use mathlib.Core.Path.{◌≡◌}
 use mathlib.Core.Bool.{true}
 use Rattle.octets.specs.Below.{all_below}
-use Rattle.sound.specs.Linear.{masters_in_place}
-use Rattle.clean.specs.CleanLaws.{passes, fails, ends}
 use Rattle.signon.specs.Judged.{in_place_at}
-use borrow.Author.Rules.{rules}
 use Rattle.signon.proofs.on_masters.masters_in_place.Given as goal
 
 abbrev pub invariant-loop-k : goal.invariant-loop-k

@@ -3,7 +3,6 @@ use mathlib.Core.Bool.{not}
 use mathlib.Core.Path.{ap}
 use native.Mathlib.Omega.{arith}
 use Rattle.signon.specs.HomeLaws.{next_none, next_other, next_back, next_in}
-use borrow.Author.Rules.{rules}
 use Rattle.signon.proofs.on_masters.next_answers.Goals as goal
 
 pub returns-then-q-eq0 : goal.returns-then-q-eq0

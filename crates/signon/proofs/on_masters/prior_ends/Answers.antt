@@ -1,6 +1,5 @@
 -- `signon::on_masters::prior_ends` meets its contract: away from home, and at home.
 use Rattle.signon.specs.HomeLaws.{prior_synonym, prior-home}
-use borrow.Author.Rules.{rules}
 use Rattle.signon.proofs.on_masters.prior_ends.Goals as goal
 
 pub returns-then-r-h : goal.returns-then-r-h

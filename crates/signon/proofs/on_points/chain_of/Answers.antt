@@ -2,7 +2,6 @@
 use mathlib.Core.Bool.{not}
 use mathlib.Core.Path.{ap}
 use Rattle.signon.specs.PointLaws.{chain-none, chain-some}
-use borrow.Author.Rules.{rules}
 use Rattle.signon.proofs.on_points.chain_of.Goals as goal
 
 pub returns-then-not-is_live : goal.returns-then-not-is_live

@@ -3,7 +3,6 @@ use mathlib.Core.Bool.{not}
 use mathlib.Core.Path.{ap}
 use Rattle.terms.specs.Terms.{key_of}
 use Rattle.signon.specs.PointLaws.{order_above, order_free, order_other, order_last}
-use borrow.Author.Rules.{rules}
 use Rattle.signon.proofs.on_points.in_order.Goals as goal
 
 pub returns-then-e-at : goal.returns-then-e-at

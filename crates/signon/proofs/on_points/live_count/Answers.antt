@@ -1,9 +1,6 @@
-use Prim.Native.Nat.{◌-◌, ◌≤◌}
-use mathlib.Core.Path.{◌≡◌}
-use mathlib.Core.Logic.{⊎_elim}
 use native.Mathlib.Omega.{arith}
 use Rattle.octets.specs.Below.{count_below}
-use Rattle.signon.specs.PointLaws.{live_at, live_hit, live_miss, live_end}
+use Rattle.signon.specs.PointLaws.{live_hit, live_miss, live_end}
 use borrow.Author.Rules.{rules}
 use Rattle.signon.proofs.on_points.live_count.Goals as goal
 use Rattle.signon.proofs.on_points.live_count.Goals.{then-is_live, else-is_live}

@@ -1,11 +1,8 @@
 -- `signon::on_points::live_count` meets its contract. The invariant: the live records passed are counted.
 use Prim.Native.Nat.{◌-◌, ◌≤◌}
 use mathlib.Core.Path.{◌≡◌}
-use mathlib.Core.Logic.{⊎_elim}
-use native.Mathlib.Omega.{arith}
 use Rattle.octets.specs.Below.{count_below}
-use Rattle.signon.specs.PointLaws.{live_at, live_hit, live_miss, live_end}
-use borrow.Author.Rules.{rules}
+use Rattle.signon.specs.PointLaws.{live_at}
 use Rattle.signon.proofs.on_points.live_count.Given as goal
 
 abbrev pub invariant-loop-k : goal.invariant-loop-k

@@ -1,9 +1,7 @@
-use Prim.Native.Nat.{◌+◌, ◌*◌, ◌-◌, ◌≤◌}
-use mathlib.Core.Path.{◌≡◌, sym, ap}
-use mathlib.Core.Bool.{true, not}
+use Prim.Native.Nat.{◌+◌, ◌≤◌}
+use mathlib.Core.Path.{sym}
 use native.Mathlib.Omega.{arith}
 use Rattle.octets.specs.Below.{all_below}
-use Rattle.sound.specs.Linear.{points_on}
 use Rattle.clean.specs.CleanLaws.{passes}
 use Rattle.signon.specs.PointLaws.{ends_at, chain-count, points_none, points-turn, path_breaks, path_ends}
 use borrow.Author.Rules.{rules}

@@ -1,14 +1,11 @@
 -- `signon::on_points::path_in_place` meets its contract. The invariant: the chains of the masters passed are in order, and their points are
 -- counted; no chain has more than 65,535, nor has a set more masters, so the sum fits.
-use Prim.Native.Nat.{◌+◌, ◌*◌, ◌-◌, ◌≤◌}
-use mathlib.Core.Path.{◌≡◌, sym}
+use Prim.Native.Nat.{◌*◌, ◌-◌, ◌≤◌}
+use mathlib.Core.Path.{◌≡◌}
 use mathlib.Core.Bool.{true}
-use native.Mathlib.Omega.{arith}
 use Rattle.octets.specs.Below.{all_below}
 use Rattle.sound.specs.Linear.{points_on}
-use Rattle.clean.specs.CleanLaws.{passes}
-use Rattle.signon.specs.PointLaws.{ends_at, chain-count, points_none, points-turn, path_breaks, path_ends}
-use borrow.Author.Rules.{rules}
+use Rattle.signon.specs.PointLaws.{ends_at}
 use Rattle.signon.proofs.on_points.path_in_place.Given as goal
 
 abbrev pub invariant-loop-k : goal.invariant-loop-k

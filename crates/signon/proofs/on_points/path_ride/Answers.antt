@@ -1,7 +1,6 @@
 -- `signon::on_points::path_ride` meets its contract: the ride of the master's key, from its first.
 use mathlib.Core.Path.{◌∙◌}
 use Rattle.signon.specs.PointLaws.{path_ride-is}
-use borrow.Author.Rules.{rules}
 use Rattle.signon.proofs.on_points.path_ride.Goals as goal
 
 pub returns : goal.returns

@@ -1,12 +1,10 @@
 use mathlib.Core.Bool.{not}
-use Prim.Native.Nat.{◌+◌, ◌-◌, ◌≤◌}
-use mathlib.Core.Path.{◌≡◌, refl, sym, ◌∙◌, ap}
+use Prim.Native.Nat.{◌+◌, ◌-◌}
+use mathlib.Core.Path.{refl, sym, ◌∙◌, ap}
 use native.Mathlib.Omega.{arith}
 use native.Mathlib.Nat.{sub-zero}
 use Rattle.terms.specs.Terms.{key_of}
 use Rattle.signon.specs.PointLaws.{ride-done, ride-breaks, ride-turn, ride_out, order_in}
-use Rattle.signon.specs.Judged.{ride_from}
-use borrow.Author.Rules.{rules}
 use Rattle.signon.proofs.on_points.ride.Goals as goal
 
 pub loop-count-init : goal.loop-count-init

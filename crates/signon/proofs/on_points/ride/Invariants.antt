@@ -1,12 +1,8 @@
 -- `signon::on_points::ride` meets its contract. The invariant: what is left of the ride gives what the whole ride gives.
-use Prim.Native.Nat.{◌+◌, ◌-◌, ◌≤◌}
-use mathlib.Core.Path.{◌≡◌, refl, sym, ◌∙◌}
-use native.Mathlib.Omega.{arith}
-use native.Mathlib.Nat.{sub-zero}
+use Prim.Native.Nat.{◌-◌, ◌≤◌}
+use mathlib.Core.Path.{◌≡◌}
 use Rattle.terms.specs.Terms.{key_of}
-use Rattle.signon.specs.PointLaws.{ride-done, ride-breaks, ride-turn, ride_out, order_in}
 use Rattle.signon.specs.Judged.{ride_from}
-use borrow.Author.Rules.{rules}
 use Rattle.signon.proofs.on_points.ride.Given as goal
 
 abbrev pub invariant-loop-count : goal.invariant-loop-count

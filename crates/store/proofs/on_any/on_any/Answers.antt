@@ -5,7 +5,6 @@ use Rattle.terms.specs.Laws.{status-number-one}
 use Rattle.sweep.specs.Swept.{Sweeps}
 use Rattle.sweep.specs.SweptLaws.{sweeps-set, swept-fields}
 use Rattle.store.specs.BehindLaws.{sweep-refused, sweep_carried}
-use borrow.Author.Rules.{rules}
 use Rattle.store.proofs.on_any.on_any.Goals as goal
 
 pub find_any-found-requires : goal.find_any-found-requires

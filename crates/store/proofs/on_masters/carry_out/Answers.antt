@@ -2,7 +2,6 @@ use mathlib.Core.Path.{refl, ap}
 use Rattle.master_calls.specs.MasterLaws.{known-set}
 use Rattle.store.specs.Kinds.{master_operation}
 use Rattle.store.specs.BehindLaws.{carried_on, carried_in}
-use borrow.Author.Rules.{rules}
 use Rattle.store.proofs.on_masters.carry_out.Goals as goal
 
 pub addm-requires : goal.addm-requires

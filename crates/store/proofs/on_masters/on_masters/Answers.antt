@@ -7,7 +7,6 @@ use Rattle.store.specs.KindsLaws.{master-call}
 use Rattle.master_calls.specs.Masters.{Places}
 use Rattle.master_calls.specs.MasterLaws.{places-set, placed_fields}
 use Rattle.store.specs.BehindLaws.{set_refused, set_carried}
-use borrow.Author.Rules.{rules}
 use Rattle.store.proofs.on_masters.on_masters.Goals as goal
 
 pub find_set-found-requires : goal.find_set-found-requires

@@ -7,7 +7,6 @@ use Rattle.records.proofs.InBaseLaws.{of_a-schema, variable_in}
 use Rattle.point_calls.specs.PathLaws.{known_under, known_among}
 use Rattle.store.specs.Kinds.{point_operation}
 use Rattle.store.specs.BehindLaws.{along-path, along-paths}
-use borrow.Author.Rules.{rules}
 use Rattle.store.proofs.on_points.carry_out.Goals as goal
 
 pub read_along-requires : goal.read_along-requires

@@ -7,7 +7,6 @@ use Rattle.store.specs.KindsLaws.{point-call}
 use Rattle.point_calls.specs.OnPath.{PathKnown, Locates}
 use Rattle.point_calls.specs.PathLaws.{locates_path, located_fields}
 use Rattle.store.specs.BehindLaws.{path_refused, path_carried}
-use borrow.Author.Rules.{rules}
 use Rattle.store.proofs.on_points.on_points.Goals as goal
 
 pub find_path-found-requires : goal.find_path-found-requires

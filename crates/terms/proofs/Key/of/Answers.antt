@@ -4,7 +4,6 @@ use native.Mathlib.Omega.{arith}
 use Rattle.octets.specs.Octets.{zeros}
 use Rattle.octets.specs.SpliceLaws.{run_splice}
 use Rattle.terms.specs.Laws.{key_copied}
-use borrow.Author.Rules.{rules}
 use Rattle.terms.proofs.Key.of.Goals as goal
 
 pub returns : goal.returns

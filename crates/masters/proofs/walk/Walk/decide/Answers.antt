@@ -1,8 +1,7 @@
 -- `masters::walk::Walk::decide` meets its contract: one test to a way out. Assumes nothing.
 use mathlib.Core.Path.{◌≡◌}
 use mathlib.Core.Bool.{true, false}
-use borrow.Author.Rules.{rules}
-use borrow.Author.Tests.{eq-eqb, ne_eqb, not-true, not-false}
+use borrow.Author.Tests.{eq-eqb, ne_eqb}
 use Rattle.masters.specs.Walks.{decide_of}
 use Rattle.masters.proofs.walk.Walk.decide.Goals as goal
 

@@ -2,7 +2,6 @@
 use Prim.Native.Nat.{ℕ, ◌+◌}
 use mathlib.Core.Path.{◌≡◌, ap, ◌∙◌}
 use native.Mathlib.Omega.{arith}
-use borrow.Author.Rules.{rules}
 use Rattle.octets.specs.Octets.{run, same_bytes}
 use Rattle.octets.specs.RunLaws.{same_bytes_comm}
 use Rattle.terms.specs.Terms.{key_of}
