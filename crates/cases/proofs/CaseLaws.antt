@@ -6,22 +6,22 @@ use Rattle.octets.specs.RunLaws.{same_bytes_eq}
 use Rattle.calls.specs.Opened.{opened}
 use Rattle.cases.specs.Small.{small_schema, bottle_call}
 use Rattle.cases.specs.Small.{two_sets}
-use Rattle.cases.specs.Cases.{Case, after, ask, play, places, table, right, all_right}
+use Rattle.cases.specs.Cases.{Case, after, ask, play, places, table, right, every_right}
 
 -- every definition on the way is opened, and the whole table computes to true
-table_right : all_right table ≡ true
-unfolding opened two_sets small_schema bottle_call places play ask table right all_right
+table_right : every_right table ≡ true
+unfolding opened two_sets small_schema bottle_call places play ask table right every_right
 table_right = refl
 
 -- past the table's end
 abbrev pub no_case : Case
 no_case = record { question = after []; answer = [] }
 
-all_at : (cs : List Case) (k : ℕ) → all_right cs ≡ true → k < length cs → right (get_or cs k no_case) ≡ true
-unfolding all_right
+all_at : (cs : List Case) (k : ℕ) → every_right cs ≡ true → k < length cs → right (get_or cs k no_case) ≡ true
+unfolding every_right
 all_at [] k h l = absurd (omega arith)
-all_at (c ∷ cs) zero h l = ((and-eq-true_iff (right c) (all_right cs)).0 h).0
-all_at (c ∷ cs) (suc k) h l = all_at cs k ((and-eq-true_iff (right c) (all_right cs)).0 h).1 (omega arith)
+all_at (c ∷ cs) zero h l = ((and-eq-true_iff (right c) (every_right cs)).0 h).0
+all_at (c ∷ cs) (suc k) h l = all_at cs k ((and-eq-true_iff (right c) (every_right cs)).0 h).1 (omega arith)
 
 -- the rule of each row
 pub case : (k : ℕ) → k < length table → ask (get_or table k no_case).question ≡ (get_or table k no_case).answer

@@ -109,6 +109,6 @@ table =
 unfoldable pub right : Case → Bool
 right c = same_bytes (ask c.question) c.answer
 
-unfoldable pub all_right : List Case → Bool
-all_right [] = true
-all_right (c ∷ cs) = right c && all_right cs
+unfoldable pub every_right : List Case → Bool
+every_right [] = true
+every_right (c ∷ cs) = right c && every_right cs

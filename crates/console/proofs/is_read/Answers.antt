@@ -3,7 +3,6 @@ use mathlib.Core.Path.{sym, ap, ◌∙◌}
 use Rattle.terms.specs.declared.Operation.{Operation}
 use Rattle.calls.specs.Call.{one_of, reads}
 use Rattle.console.specs.Console.{is_read}
-use borrow.Author.Rules.{rules}
 use Rattle.console.proofs.is_read.Goals as goal
 
 pub returns-in-Readm : goal.returns-in-Readm

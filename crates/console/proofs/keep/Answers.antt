@@ -3,7 +3,6 @@ use mathlib.Core.Path.{refl}
 use native.Mathlib.Omega.{arith}
 use borrow.Author.Tests.{eq-eqb, ne_eqb}
 use Rattle.console.specs.SmallLaws.{kept_more, kept_full}
-use borrow.Author.Rules.{rules}
 use Rattle.console.proofs.keep.Goals as goal
 
 pub returns-then-n-eq129 : goal.returns-then-n-eq129

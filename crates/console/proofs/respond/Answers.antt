@@ -2,10 +2,9 @@
 use mathlib.Core.Path.{◌≡◌, refl, sym, ◌∙◌}
 use mathlib.Core.Bool.{true}
 use native.Mathlib.Omega.{arith}
-use borrow.Author.Tests.{le-leb, lt-leb, eqb-true, not-true, not-false}
+use borrow.Author.Tests.{le-leb, lt-leb, eqb-true}
 use Rattle.console.specs.Console.{Six, six_fields}
 use Rattle.console.specs.ConsoleLaws.{unmade-line, made-line}
-use borrow.Author.Rules.{rules}
 use Rattle.console.proofs.respond.Goals as goal
 
 pub returns-then-line-gt128 : goal.returns-then-line-gt128

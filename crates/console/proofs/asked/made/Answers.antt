@@ -1,6 +1,5 @@
 -- `console::asked::made` meets its contract: one test for each field.
 use Rattle.console.specs.Console.{fields_made}
-use borrow.Author.Rules.{rules}
 use Rattle.console.proofs.asked.made.Goals as goal
 
 pub returns : goal.returns

@@ -1,7 +1,6 @@
 -- `console::asked::operation_in` meets its contract: the field is made for it.
 use mathlib.Core.Path.{refl}
 use Rattle.console.specs.ConsoleLaws.{made-operation}
-use borrow.Author.Rules.{rules}
 use Rattle.console.proofs.asked.operation_in.Goals as goal
 
 pub operation-requires : goal.operation-requires

@@ -1,7 +1,6 @@
 -- `console::asked::path_in` meets its contract: the field is made for it.
 use mathlib.Core.Path.{refl}
 use Rattle.console.specs.ConsoleLaws.{made-path}
-use borrow.Author.Rules.{rules}
 use Rattle.console.proofs.asked.path_in.Goals as goal
 
 pub path_name-requires : goal.path_name-requires

@@ -1,7 +1,6 @@
 -- `console::asked::reference_in` meets its contract: the field is made for it.
 use mathlib.Core.Path.{refl}
 use Rattle.console.specs.ConsoleLaws.{made-reference}
-use borrow.Author.Rules.{rules}
 use Rattle.console.proofs.asked.reference_in.Goals as goal
 
 pub reference_of-requires : goal.reference_of-requires

@@ -1,7 +1,6 @@
 -- `console::asked::set_in` meets its contract: the field is made for it.
 use mathlib.Core.Path.{refl}
 use Rattle.console.specs.ConsoleLaws.{made-set}
-use borrow.Author.Rules.{rules}
 use Rattle.console.proofs.asked.set_in.Goals as goal
 
 pub set_name-requires : goal.set_name-requires

@@ -1,5 +1,5 @@
 use Prim.Native.Nat.{ℕ, ◌-◌, ◌+◌}
-use mathlib.Core.Path.{◌≡◌, refl, sym, ◌∙◌}
+use mathlib.Core.Path.{refl, sym, ◌∙◌}
 use mathlib.Core.Bool.{Bool}
 use mathlib.Core.List.{List}
 use native.Mathlib.Omega.{arith}
@@ -7,8 +7,6 @@ use lib.Dec.{eqb}
 use lib.ListN.{length, get_or}
 use borrow.Author.Tests.{eq-eqb, ne_eqb}
 use Rattle.octets.specs.BelowLaws.{lowest_from-turn, lowest_from_hit, lowest_from_end}
-use Rattle.console.specs.Lines.{end_from}
-use borrow.Author.Rules.{rules}
 use Rattle.console.proofs.lines.end_from.Goals as goal
 
 abbrev blank_at : List ℕ → ℕ → Bool

@@ -1,10 +1,8 @@
-use Prim.Native.Nat.{ℕ, ◌-◌, ◌+◌, ◌≤◌}
+use Prim.Native.Nat.{ℕ, ◌+◌}
 use mathlib.Core.Path.{◌≡◌, ap, ◌∙◌}
 use native.Mathlib.Omega.{arith}
-use lib.ListN.{length}
 use Rattle.console.specs.Lines.{end_from, end_of}
 use Rattle.console.specs.LineLaws.{end_of-turn, end_of_le}
-use borrow.Author.Rules.{rules}
 use Rattle.console.proofs.lines.end_of.Goals as goal
 
 pub loop-i-init : goal.loop-i-init

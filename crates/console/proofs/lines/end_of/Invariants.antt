@@ -1,11 +1,8 @@
 -- `console::lines::end_of` meets its contract. The invariant: `at` is the end of field i.
-use Prim.Native.Nat.{ℕ, ◌-◌, ◌+◌, ◌≤◌}
-use mathlib.Core.Path.{◌≡◌, ap, ◌∙◌}
-use native.Mathlib.Omega.{arith}
+use Prim.Native.Nat.{◌-◌, ◌+◌, ◌≤◌}
+use mathlib.Core.Path.{◌≡◌}
 use lib.ListN.{length}
-use Rattle.console.specs.Lines.{end_from, end_of}
-use Rattle.console.specs.LineLaws.{end_of-turn, end_of_le}
-use borrow.Author.Rules.{rules}
+use Rattle.console.specs.Lines.{end_of}
 use Rattle.console.proofs.lines.end_of.Given as goal
 
 abbrev pub invariant-loop-i : goal.invariant-loop-i

@@ -4,7 +4,6 @@ use mathlib.Core.Path.{refl}
 use native.Mathlib.Omega.{arith}
 use lib.ListN.{length}
 use Rattle.console.specs.LineLaws.{start_end, end_of-last}
-use borrow.Author.Rules.{rules}
 use Rattle.console.proofs.lines.field.Goals as goal
 
 pub slice_bounds-result-count : goal.slice_bounds-result-count

@@ -2,7 +2,6 @@
 use mathlib.Core.Path.{◌∙◌}
 use lib.ListN.{replicate}
 use Rattle.octets.specs.SpliceLaws.{splice-whole}
-use borrow.Author.Rules.{rules}
 use Rattle.console.proofs.lines.operation.Goals as goal
 
 pub returns : goal.returns

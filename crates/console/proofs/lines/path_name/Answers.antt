@@ -4,7 +4,6 @@ use native.Mathlib.Omega.{arith}
 use lib.ListN.{length, replicate}
 use Rattle.console.specs.LineLaws.{name-length}
 use Rattle.octets.specs.SpliceLaws.{splice-whole}
-use borrow.Author.Rules.{rules}
 use Rattle.console.proofs.lines.path_name.Goals as goal
 
 pub returns-then-is_dash : goal.returns-then-is_dash

@@ -2,7 +2,6 @@
 use Prim.Native.Nat.{◌-◌}
 use native.Mathlib.Omega.{arith}
 use Rattle.console.specs.LineLaws.{end_of_le, start_behind}
-use borrow.Author.Rules.{rules}
 use Rattle.console.proofs.lines.start_of.Goals as goal
 
 pub overflow_add-result : goal.overflow_add-result

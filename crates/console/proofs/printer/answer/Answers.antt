@@ -2,7 +2,6 @@
 use mathlib.Core.Path.{refl}
 use native.Mathlib.Omega.{arith}
 use Rattle.console.specs.PrinterLaws.{stays-behind}
-use borrow.Author.Rules.{rules}
 use Rattle.console.proofs.printer.answer.Goals as goal
 
 pub returns : goal.returns

@@ -3,7 +3,6 @@ use mathlib.Core.Path.{◌≡◌, sym, ◌∙◌}
 use native.Mathlib.Omega.{arith}
 use Rattle.octets.specs.Octets.{word_bytes}
 use Rattle.console.specs.PrinterLaws.{word_whole}
-use borrow.Author.Rules.{rules}
 use Rattle.console.proofs.printer.put_reference.Goals as goal
 
 pub returns-then-is_spelt : goal.returns-then-is_spelt

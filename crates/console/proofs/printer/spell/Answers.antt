@@ -1,10 +1,9 @@
-use Prim.Native.Nat.{◌+◌, ◌-◌, ◌≤◌}
+use Prim.Native.Nat.{◌+◌, ◌-◌}
 use mathlib.Core.Path.{◌≡◌, refl, sym, ◌∙◌}
 use native.Mathlib.Omega.{arith}
-use Rattle.console.specs.References.{decimal, digits_onto}
+use Rattle.console.specs.References.{digits_onto}
 use Rattle.console.specs.PrinterLaws.{digits_turn, digits_last}
-use lib.ListN.{length, drop, length-set, drop_of_length-le}
-use borrow.Author.Rules.{rules}
+use lib.ListN.{length-set, drop_of_length-le}
 use Rattle.console.proofs.printer.spell.Goals as goal
 
 pub loop-i-init : goal.loop-i-init

@@ -1,11 +1,8 @@
 -- `console::printer::spell` meets its contract. The invariant: the digits of what is left, before those that stand there, are n's.
-use Prim.Native.Nat.{◌+◌, ◌-◌, ◌≤◌}
-use mathlib.Core.Path.{◌≡◌, refl, sym, ◌∙◌}
-use native.Mathlib.Omega.{arith}
+use Prim.Native.Nat.{◌≤◌}
+use mathlib.Core.Path.{◌≡◌}
 use Rattle.console.specs.References.{decimal, digits_onto}
-use Rattle.console.specs.PrinterLaws.{digits_turn, digits_last}
-use lib.ListN.{length, drop, length-set, drop_of_length-le}
-use borrow.Author.Rules.{rules}
+use lib.ListN.{length, drop}
 use Rattle.console.proofs.printer.spell.Given as goal
 
 abbrev pub invariant-loop-i : goal.invariant-loop-i

@@ -1,13 +1,11 @@
-use Prim.Native.Nat.{ℕ, ◌+◌, ◌*◌, ◌-◌, ◌≤◌, ◌<◌}
+use Prim.Native.Nat.{◌+◌, ◌*◌, ◌-◌}
 use mathlib.Core.Path.{◌≡◌, refl, sym, ◌∙◌}
 use mathlib.Core.Bool.{true, cond}
-use mathlib.Core.List.{List}
 use Rattle.console.specs.References.{is_digit, is_decimal, decimal_of}
 use native.Mathlib.Omega.{arith}
 use lib.ListN.{length, drop, get_or}
-use borrow.Author.Tests.{eq-eqb, ne_eqb, not-true, not-false}
+use borrow.Author.Tests.{eq-eqb, ne_eqb}
 use Rattle.console.specs.ReferenceLaws.{spelled, digit_ge, spelled-turn, spelled-fails, spelled_end, spelled_high}
-use borrow.Author.Rules.{rules}
 use Rattle.console.proofs.references.decimal.Goals as goal
 
 pub returns-then-f-eq0 : goal.returns-then-f-eq0

@@ -1,6 +1,5 @@
 -- `console::references::is_reference` meets its contract: the number that stands for none is no reference.
 use Rattle.console.specs.ConsoleLaws.{reference-told}
-use borrow.Author.Rules.{rules}
 use Rattle.console.proofs.references.is_reference.Goals as goal
 
 pub returns : goal.returns

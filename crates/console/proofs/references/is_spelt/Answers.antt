@@ -1,7 +1,6 @@
 -- `console::references::is_spelt` meets its contract: the number is that of its own two letters behind LK.
 use mathlib.Core.Path.{refl}
 use Rattle.console.specs.References.{is_spelt}
-use borrow.Author.Rules.{rules}
 use Rattle.console.proofs.references.is_spelt.Goals as goal
 
 pub returns : goal.returns

@@ -3,7 +3,6 @@ use mathlib.Core.Path.{◌≡◌, refl, ◌∙◌}
 use native.Mathlib.Omega.{arith}
 use Rattle.console.specs.References.{reference_of}
 use Rattle.console.specs.ConsoleLaws.{reference_lt}
-use borrow.Author.Rules.{rules}
 use Rattle.console.proofs.references.reference_of.Goals as goal
 
 pub overflow_cast-result : goal.overflow_cast-result
