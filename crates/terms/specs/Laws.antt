@@ -5,7 +5,9 @@ use Rattle.octets.specs.Octets.{Bytes, splice, zeros, word_sum, same_bytes, ever
 use Rattle.octets.specs.SpliceLaws.{drop-one, drop-four, splice_eq, drop-zeros}
 use Rattle.octets.specs.RunLaws.{every_at, ne_same_bytes}
 use Rattle.terms.specs.Terms.{key_from, home_of, end_ref, link_ref}
-use Rattle.terms.specs.Status.{status_number, is_done, first_of}
+use Rattle.terms.specs.Status.{status_number, is_done, first_of, status_by}
+use Rattle.terms.specs.declared.Refusal.{Refusal}
+use Rattle.terms.specs.declared.Refusal.TheVariants as refusal
 use Rattle.terms.specs.declared.Status.{Status}
 use Rattle.terms.specs.declared.Status.TheVariants.{Done, Schm, Size, Func, Fntf, Kind, Path, Area, Klen, Bctl, Keys, Ivrp, Mrnf, Dupm, Imdl, Full, Damg}
 
@@ -66,6 +68,31 @@ not_done s h = ne_eqb (status_number s) 0 (λ e. omega arith)
 
 pub refused-done : {A : Type 0} {s u : Status} → s ≡ u → 0 < status_number u → s ≡ Done → A
 refused-done {u = u} h l d = absurd (let z : status_number u ≡ 0 = ap status_number (sym h ∙ d) in omega arith)
+
+-- a refusal is never Done
+pub refusal-counts : (why : Refusal) → 0 < status_number (status_by why)
+refusal-counts refusal.Schm = omega arith
+refusal-counts refusal.Size = omega arith
+refusal-counts refusal.Func = omega arith
+refusal-counts refusal.Fntf = omega arith
+refusal-counts refusal.Kind = omega arith
+refusal-counts refusal.Path = omega arith
+refusal-counts refusal.Area = omega arith
+refusal-counts refusal.Klen = omega arith
+refusal-counts refusal.Bctl = omega arith
+refusal-counts refusal.Keys = omega arith
+refusal-counts refusal.Ivrp = omega arith
+refusal-counts refusal.Mrnf = omega arith
+refusal-counts refusal.Dupm = omega arith
+refusal-counts refusal.Imdl = omega arith
+refusal-counts refusal.Full = omega arith
+refusal-counts refusal.Damg = omega arith
+
+pub refusal-not-done : (why : Refusal) → is_done (status_by why) ≡ false
+refusal-not-done why = not_done (status_by why) (refusal-counts why)
+
+pub refusal_no_done : {A : Type 0} (why : Refusal) → status_by why ≡ Done → A
+refusal_no_done why d = refused-done refl (refusal-counts why) d
 
 -- one test that refuses, or two, and the status behind them
 pub one_first : (a : Bool) (s more : Status) → 0 < status_number s → cond a s more ≡ first_of (cond a s Done) more

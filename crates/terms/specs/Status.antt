@@ -1,7 +1,9 @@
 -- Document 01, "Status numbers": the number and the code of each status, and which one is no refusal.
-use Rattle.std.specs.Prelude.{ℕ, Bool, cond, List, eqb}
+use Rattle.std.specs.Prelude.{ℕ, Bool, cond, List, eqb, Result, Ok, Err}
 use Rattle.octets.specs.Text.{text}
 use Rattle.terms.specs.declared.Status.{Status}
+use Rattle.terms.specs.declared.Refusal.{Refusal}
+use Rattle.terms.specs.declared.Refusal.TheVariants as refusal
 use Rattle.terms.specs.declared.Status.TheVariants.{Done, Schm, Size, Func, Fntf, Kind, Path, Area, Klen, Bctl, Keys, Ivrp, Mrnf, Dupm, Imdl, Full, Damg}
 
 abbrev pub status_number : Status → ℕ
@@ -48,3 +50,26 @@ status_code Dupm = text "DUPM"
 status_code Imdl = text "IMDL"
 status_code Full = text "FULL"
 status_code Damg = text "DAMG"
+
+-- the status of a refusal; and what a Result says as a status: done, or its refusal
+abbrev pub status_by : Refusal → Status
+status_by refusal.Schm = Schm
+status_by refusal.Size = Size
+status_by refusal.Func = Func
+status_by refusal.Fntf = Fntf
+status_by refusal.Kind = Kind
+status_by refusal.Path = Path
+status_by refusal.Area = Area
+status_by refusal.Klen = Klen
+status_by refusal.Bctl = Bctl
+status_by refusal.Keys = Keys
+status_by refusal.Ivrp = Ivrp
+status_by refusal.Mrnf = Mrnf
+status_by refusal.Dupm = Dupm
+status_by refusal.Imdl = Imdl
+status_by refusal.Full = Full
+status_by refusal.Damg = Damg
+
+abbrev pub status_of : {A : Type 0} → Result A Refusal → Status
+status_of (Ok _) = Done
+status_of (Err why) = status_by why

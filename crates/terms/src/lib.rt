@@ -4,17 +4,17 @@
 ghost use Rattle.std.specs.Prelude.{◌≡◌, ◌+◌, ◌*◌, ◌≤◌, ◌<◌, length};
 ghost use Rattle.octets.specs.Octets.{same_bytes, word_sum, all_blank, run};
 ghost use Rattle.terms.specs.Terms.{key_of, key_from, end_ref, link_ref, home_of};
-ghost use Rattle.terms.specs.Status.{status_number, status_code};
+ghost use Rattle.terms.specs.Status.{status_number, status_code, status_by};
 ghost use Rattle.terms.specs.Operation.{operation_of};
 
 // "Record numbers, block numbers and schema entry numbers are counted apart."
-#[derive(Clone, Copy)]
+#[derive(Clone, Copy, PartialEq, Eq)]
 pub struct RecordNo(pub u32);
 
-#[derive(Clone, Copy)]
+#[derive(Clone, Copy, PartialEq, Eq)]
 pub struct BlockNo(pub u32);
 
-#[derive(Clone, Copy)]
+#[derive(Clone, Copy, PartialEq, Eq)]
 pub struct EntryNo(pub u8);
 
 // A key is its first `len` bytes; document 01's lengths are 4, 8, 12 and 16.
@@ -24,11 +24,11 @@ pub struct Key {
     pub len: usize,
 }
 
-#[derive(Clone, Copy)]
+#[derive(Clone, Copy, PartialEq, Eq)]
 pub struct Reference(pub u32);
 
 // What a call answers.
-#[derive(Clone, Copy)]
+#[derive(Clone, Copy, PartialEq, Eq)]
 pub enum Status {
     Done,
     Schm,
@@ -49,8 +49,29 @@ pub enum Status {
     Damg,
 }
 
+// Why a call is refused: every status but Done.
+#[derive(Clone, Copy, PartialEq, Eq)]
+pub enum Refusal {
+    Schm,
+    Size,
+    Func,
+    Fntf,
+    Kind,
+    Path,
+    Area,
+    Klen,
+    Bctl,
+    Keys,
+    Ivrp,
+    Mrnf,
+    Dupm,
+    Imdl,
+    Full,
+    Damg,
+}
+
 // The sixteen calls, and what is none of them.
-#[derive(Clone, Copy)]
+#[derive(Clone, Copy, PartialEq, Eq)]
 pub enum Operation {
     Formt,
     Sinon,
@@ -175,6 +196,31 @@ impl Reference {
         ensures { (result.0 ≡ link_ref a b) × (a < 256) × (b < 256) }
     {
         Reference(0x4C4B0000 + wide(a) * 256 + wide(b))
+    }
+}
+
+impl From<Refusal> for Status {
+    ghost from_gives = { λ why s. s ≡ status_by why };
+
+    fn from(why: Refusal) -> Status {
+        match why {
+            Refusal::Schm => Status::Schm,
+            Refusal::Size => Status::Size,
+            Refusal::Func => Status::Func,
+            Refusal::Fntf => Status::Fntf,
+            Refusal::Kind => Status::Kind,
+            Refusal::Path => Status::Path,
+            Refusal::Area => Status::Area,
+            Refusal::Klen => Status::Klen,
+            Refusal::Bctl => Status::Bctl,
+            Refusal::Keys => Status::Keys,
+            Refusal::Ivrp => Status::Ivrp,
+            Refusal::Mrnf => Status::Mrnf,
+            Refusal::Dupm => Status::Dupm,
+            Refusal::Imdl => Status::Imdl,
+            Refusal::Full => Status::Full,
+            Refusal::Damg => Status::Damg,
+        }
     }
 }
 
