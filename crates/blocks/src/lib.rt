@@ -10,16 +10,25 @@ ghost use Rattle.blocks.specs.Blocks.{HasBlock, block_at, block_with, check_at, 
 use terms::BlockNo;
 
 // The kinds of check. Every block of a data base has the same.
-#[derive(Clone, Copy)]
+#[derive(Clone, Copy, PartialEq, Eq)]
 pub enum Check {
     Sum,
 }
 
 impl Check {
-    // The kind that a number asks for.
+    // As `Check::from`.
     pub fn of(number: u8) -> Check
         ensures { result ≡ check_by number }
     {
+        Check::from(number)
+    }
+}
+
+impl From<u8> for Check {
+    ghost from_gives = { λ number k. k ≡ check_by number };
+
+    // The kind that a number asks for.
+    fn from(number: u8) -> Check {
         Check::Sum
     }
 }

@@ -184,11 +184,11 @@ impl Reference {
         Reference::END
     }
 
-    // A record of the set.
+    // As `Reference::from`.
     pub fn number(n: RecordNo) -> Reference
         ensures { result.0 ≡ n.0 }
     {
-        Reference(n.0)
+        Reference::from(n)
     }
 
     // LKxx: the path with the letters a and b, from its beginning or end. The letters are bytes, so no two pairs make the same word.
@@ -196,6 +196,15 @@ impl Reference {
         ensures { (result.0 ≡ link_ref a b) × (a < 256) × (b < 256) }
     {
         Reference(0x4C4B0000 + wide(a) * 256 + wide(b))
+    }
+}
+
+impl From<RecordNo> for Reference {
+    ghost from_gives = { λ n r. r.0 ≡ n.0 };
+
+    // A record of the set.
+    fn from(n: RecordNo) -> Reference {
+        Reference(n.0)
     }
 }
 
@@ -224,12 +233,12 @@ impl From<Refusal> for Status {
     }
 }
 
-impl Status {
+impl From<Status> for u32 {
+    ghost from_gives = { λ s n. n ≡ status_number s };
+
     // The number that C and the tests know the status by.
-    pub fn number(self) -> u32
-        ensures { result ≡ status_number self }
-    {
-        match self {
+    fn from(s: Status) -> u32 {
+        match s {
             Status::Done => 0,
             Status::Schm => 1,
             Status::Size => 2,
@@ -248,6 +257,15 @@ impl Status {
             Status::Full => 15,
             Status::Damg => 16,
         }
+    }
+}
+
+impl Status {
+    // As `u32::from`.
+    pub fn number(self) -> u32
+        ensures { result ≡ status_number self }
+    {
+        u32::from(self)
     }
 
     // The four characters that are printed.
@@ -315,10 +333,19 @@ fn five_letters(op: &[u8]) -> Operation
 }
 
 impl Operation {
-    // The call that the five bytes ask for.
+    // As `Operation::from`.
     pub fn of(op: &[u8; 5]) -> Operation
         ensures { result ≡ operation_of op.now }
     {
+        Operation::from(op)
+    }
+}
+
+impl From<&[u8; 5]> for Operation {
+    ghost from_gives = { λ op call. call ≡ operation_of op.now };
+
+    // The call that the five bytes ask for.
+    fn from(op: &[u8; 5]) -> Operation {
         five_letters(op)
     }
 }
