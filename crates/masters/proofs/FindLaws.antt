@@ -1,16 +1,20 @@
 -- What the search gives: a record that is found is a live record of the set with that key.
-use Rattle.std.specs.Prelude.{ℕ, zero, suc, ◌≡◌, refl, Bool, true, false, cond, ◌&&◌, List, ◌⊎◌, eqb, leb}
+use Rattle.std.specs.Prelude.{ℕ, zero, suc, ◌≡◌, ◌↔◌, refl, Bool, true, false, cond, ◌&&◌, List, ◌⊎◌, eqb, leb, Ok, Err}
 use Rattle.std.proofs.Math.Bool.{and-eq-true_iff}
 use Rattle.std.proofs.Common.{inl, inr, ⊎_elim, arith, leb-true}
 use Rattle.octets.specs.Octets.{same_bytes}
 use Rattle.octets.specs.RunLaws.{same_bytes_eq}
 use Rattle.terms.specs.declared.RecordNo.{RecordNo}
+use Rattle.terms.specs.declared.Refusal.{Refusal}
+use Rattle.terms.specs.declared.Refusal.TheVariants as refusal
+use Rattle.terms.specs.declared.Status.TheVariants.{Done, Mrnf, Damg}
+use Rattle.terms.specs.Status.{status_by, status_of}
 use Rattle.schema.specs.declared.Entry.{Entry}
 use Rattle.schema.specs.Place.{InSet, in_set}
 use Rattle.records.specs.Records.{is_live, root_next, master_key}
 use Rattle.masters.specs.declared.Found.{Found}
 use Rattle.masters.specs.declared.Found.TheVariants.{At, Missing, Damaged}
-use Rattle.masters.specs.Find.{home_in, held_by_own, seek, find, tail_from}
+use Rattle.masters.specs.Find.{home_in, held_by_own, seek, find, is_missing, is_damaged, master_of, tail_from}
 
 pub in_set_true : (e : Entry) (r : ℕ) → in_set e r ≡ true → InSet e r
 in_set_true e r h =
@@ -69,3 +73,32 @@ pub find_at : (b : List ℕ) (e : Entry) (key : List ℕ) (q : RecordNo) → fin
 unfolding find
 find_at b e key q h =
     seek-at e.records b e key (home_in e key) q (from-home (held_by_own b e (home_in e key)) (seek e.records b e key (home_in e key)) q h)
+
+-- ---- the named master, as a call asks for it: a record, 16 or 12
+
+pub master_found : (f : Found) (m : RecordNo) → (master_of f ≡ Ok m) ↔ (f ≡ At m)
+master_found (At r) m = (λ h. cc, λ h. cc)
+master_found Missing m = (λ h. cc, λ h. cc)
+master_found Damaged m = (λ h. cc, λ h. cc)
+
+pub master_missing : (f : Found) → (master_of f ≡ Err refusal.Mrnf) ↔ (f ≡ Missing)
+master_missing (At r) = (λ h. cc, λ h. cc)
+master_missing Missing = (λ h. refl, λ h. refl)
+master_missing Damaged = (λ h. cc, λ h. cc)
+
+pub master_damaged : (f : Found) → (master_of f ≡ Err refusal.Damg) ↔ (f ≡ Damaged)
+master_damaged (At r) = (λ h. cc, λ h. cc)
+master_damaged Missing = (λ h. cc, λ h. cc)
+master_damaged Damaged = (λ h. refl, λ h. refl)
+
+-- as a status; and the refusal that ends a call
+pub master_status_of : (f : Found) → status_of (master_of f) ≡ cond (is_damaged f) Damg (cond (is_missing f) Mrnf Done)
+master_status_of (At r) = refl
+master_status_of Missing = refl
+master_status_of Damaged = refl
+
+pub master_refused : (f : Found) (why : Refusal) → master_of f ≡ Err why
+    → ((f ≡ Damaged) × (status_by why ≡ Damg)) ⊎ ((f ≡ Missing) × (status_by why ≡ Mrnf))
+master_refused (At r) why h = cc
+master_refused Missing why h = let w : why ≡ refusal.Mrnf = cc in inr (refl, rw w refl)
+master_refused Damaged why h = let w : why ≡ refusal.Damg = cc in inl (refl, rw w refl)

@@ -1,7 +1,10 @@
 -- Document 01, "Where masters live": homes, and the search for a key.
-use Rattle.std.specs.Prelude.{ℕ, zero, suc, Bool, true, false, cond, ◌&&◌, List, eqb}
+use Rattle.std.specs.Prelude.{ℕ, zero, suc, Bool, true, false, cond, ◌&&◌, List, eqb, Result, Ok, Err}
 use Rattle.octets.specs.Octets.{same_bytes}
 use Rattle.terms.specs.Terms.{home_of}
+use Rattle.terms.specs.declared.RecordNo.{RecordNo}
+use Rattle.terms.specs.declared.Refusal.{Refusal}
+use Rattle.terms.specs.declared.Refusal.TheVariants.{Mrnf, Damg}
 use Rattle.schema.specs.declared.Entry.{Entry}
 use Rattle.schema.specs.Place.{in_set}
 use Rattle.records.specs.Records.{is_live, root_next, master_key}
@@ -54,6 +57,12 @@ abbrev pub record_found : Found → ℕ
 record_found (At r) = r.0
 record_found Missing = 0
 record_found Damaged = 0
+
+-- "find the named master (16, then 12)": the record that was found, or why a call ends there
+abbrev pub master_of : Found → Result RecordNo Refusal
+master_of (At r) = Ok r
+master_of Missing = Err Mrnf
+master_of Damaged = Err Damg
 
 -- the last record that ROOT next leads to from r, with n more records to visit
 unfoldable pub tail_from : ℕ → List ℕ → Entry → ℕ → ℕ

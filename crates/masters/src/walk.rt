@@ -4,13 +4,13 @@ ghost use Rattle.std.specs.Prelude.{◌≡◌, ◌<◌, ◌≤◌, length};
 ghost use Rattle.terms.specs.Terms.{key_of};
 ghost use Rattle.schema.specs.Place.{InSet, LiesIn};
 ghost use Rattle.schema.specs.Guarantee.{MasterOk};
-ghost use Rattle.masters.specs.Find.{own_home, held_by_own, seek, find};
+ghost use Rattle.masters.specs.Find.{own_home, held_by_own, seek, find, master_of};
 ghost use Rattle.masters.specs.Walks.{decide_of, step_of, last_from, last_sought};
 
 use super::Found;
 use records::fields::{is_live, key_in, key_is, root_next};
 use schema::Entry;
-use terms::{Key, RecordNo};
+use terms::{Key, RecordNo, Refusal};
 
 // Where the walk stands: the pointer that it came by, a plain word until it is tested against R, and the records visited before it.
 #[derive(Clone, Copy)]
@@ -162,4 +162,19 @@ pub fn find(base: &[u8], e: Entry, k: Key) -> Sought
         };
     }
     seek_from(base, e, k, h)
+}
+
+// "find the named master (16, then 12)"
+pub fn master(base: &[u8], e: Entry, k: Key) -> Result<RecordNo, Refusal>
+    requires lies_in { LiesIn e (length base.now) }
+    requires master_ok { MasterOk e }
+    requires le_records { 1 ≤ e.records }
+    requires len_value { k.len ≡ e.key }
+    ensures { result ≡ master_of (find base.now e (key_of k)) }
+{
+    match find(base, e, k).found {
+        Found::At(r) => Ok(r),
+        Found::Damaged => Err(Refusal::Damg),
+        Found::Missing => Err(Refusal::Mrnf),
+    }
 }
