@@ -2,6 +2,7 @@
 #![tactic(auto)]
 
 pub mod fields;
+pub mod held;
 
 // A record's neighbours on one path, as its two link words: 0 is none.
 #[derive(Clone, Copy)]
