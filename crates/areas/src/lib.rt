@@ -16,7 +16,7 @@ use terms::RecordNo;
 // "state byte (1 live), three zeros", as the first word of a record
 const LIVE: u32 = 0x01000000;
 
-// Stores the n bytes from `from` of src at `at` of dst.
+// Stores the n bytes from `from` of src at `at` of dst. (kept: a slice of src with its end is no plainer in the seven places that copy.)
 fn copy_part(dst: &mut [u8], at: usize, src: &[u8], from: usize, n: usize)
     requires n_in_bounds { at + n ≤ length dst.old }
     requires n_in_bounds_2 { from + n ≤ length src.now }
@@ -32,11 +32,8 @@ pub fn area_key_place(e: Entry, j: usize) -> usize
     ensures { result ≡ area_key_place e j }
 {
     let mut at: usize = 0;
-    let mut k: usize = 0;
-    while k < j {
-        let p = path_of(e, k);
-        at += p.len as usize;
-        k += 1;
+    for k in 0..j {
+        at += path_of(e, k).len as usize;
     }
     at
 }
@@ -100,14 +97,11 @@ fn read_variable(base: &[u8], e: Entry, r: RecordNo, area: &mut [u8])
     ensures { area.new ≡ area_of base.now e r.0 }
 {
     let part = record_of(base, e, r);
-    let count = e.count as usize;
     let mut at: usize = 0;
-    let mut j: usize = 0;
-    while j < count {
+    for j in 0..e.count as usize {
         let p = path_of(e, j);
         copy_part(area, at, part, p.at as usize, p.len as usize);
         at += p.len as usize;
-        j += 1;
     }
     copy_part(area, at, part, e.body as usize, e.room as usize);
 }
@@ -179,14 +173,11 @@ fn put_paths(part: &mut [u8], e: Entry, links: [Link; 4], area: &[u8])
     requires e_value { is_master e ≡ false }
     ensures { part.new ≡ splice part.old 4 (new_paths e links area.now e.count 0) }
 {
-    let count = e.count as usize;
     let mut from: usize = 0;
-    let mut j: usize = 0;
-    while j < count {
+    for j in 0..e.count as usize {
         let p = path_of(e, j);
         put_path(part, p, links[j], area, from);
         from += p.len as usize;
-        j += 1;
     }
 }
 

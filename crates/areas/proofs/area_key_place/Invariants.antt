@@ -1,12 +1,9 @@
 -- `areas::area_key_place` meets its contract. The loop's invariant: `at` is the place of path k's key, and at most 255 for each path
 -- passed, so that no sum wraps. Assumes nothing.
-use Prim.Native.Nat.{◌*◌, ◌-◌, ◌≤◌}
+use Prim.Native.Nat.{◌*◌, ◌≤◌}
 use mathlib.Core.Path.{◌≡◌}
 use Rattle.records.specs.Areas.{area_key_place}
 use Rattle.areas.proofs.area_key_place.Given as goal
 
 abbrev pub invariant-loop-k : goal.invariant-loop-k
-invariant-loop-k l = (l.k ≤ l.j) × (l.at ≡ area_key_place l.e l.k) × (l.at ≤ 255 * l.k)
-
-abbrev pub decreases-loop-k : goal.decreases-loop-k
-decreases-loop-k l = l.j - l.k
+invariant-loop-k l = (l.at ≡ area_key_place l.e l.k) × (l.at ≤ 255 * l.k)

@@ -1,0 +1,28 @@
+-- `areas::put_variable` meets its contract: what is stored into the record's part is stored into the data base. Assumes nothing.
+use mathlib.Core.Path.{◌≡◌}
+use native.Mathlib.Omega.{arith}
+use native.Mathlib.Nat.{add-sub_cancel_left}
+use lib.ListN.{length}
+use borrow.Author.Tests.{ne_eqb}
+use Prim.Native.Nat.{◌+◌}
+use Rattle.octets.specs.SpliceLaws.{splice-part}
+use Rattle.schema.specs.Place.{place_of}
+use Rattle.schema.proofs.PlaceLaws.{place_inside}
+use Rattle.records.specs.Areas.{new_variable}
+use Rattle.records.proofs.NewLaws.{length-new_variable}
+use Rattle.areas.proofs.put_variable.Goals as goal
+
+pub overflow_add-end : goal.overflow_add-end
+overflow_add-end c = omega (arith, place_inside c.args.r.0 c.requires.lies_in c.requires.in_set, c.place_of-at.ensures)
+
+pub slice_bounds-new_variable-end : goal.slice_bounds-new_variable-end
+slice_bounds-new_variable-end c = omega (arith, place_inside c.args.r.0 c.requires.lies_in c.requires.in_set, c.place_of-at.ensures)
+
+pub returns : goal.returns
+returns c =
+    let a = c.args in
+    let ys = new_variable a.e a.links a.area.now in
+    let l : length ys ≡ a.e.body + a.e.room = length-new_variable a.e a.links a.area.now c.requires.fields (ne_eqb a.e.kind 1 (λ k. omega (arith, c.requires.kind_value))) c.requires.area_len in
+    let z : place_of a.e a.r.0 + 0 ≡ place_of a.e a.r.0 = omega arith in
+    rw (add-sub_cancel_left c.place_of-at.result a.e.size, c.new_variable.ensures, add-sub_cancel_left c.place_of-at.result a.e.size, c.place_of-at.ensures)
+    (rw z at (splice-part (place_of a.e a.r.0) a.e.size a.base.now 0 ys (omega (arith, l, c.requires.lies_in.sized))))
