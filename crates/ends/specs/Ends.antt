@@ -1,5 +1,8 @@
 -- How a call ends: with a refusal that changes nothing, with a record that is given, or with stores that are committed.
-use Rattle.std.specs.Prelude.{ℕ, ◌≡◌, cond, List, eqb}
+use Rattle.std.specs.Prelude.{ℕ, ◌≡◌, cond, List, eqb, Option, Some, None, Result, Ok, Err}
+use Rattle.terms.specs.declared.RecordNo.{RecordNo}
+use Rattle.terms.specs.declared.Reference.{Reference}
+use Rattle.terms.specs.declared.Refusal.{Refusal}
 use Rattle.terms.specs.declared.Status.{Status}
 use Rattle.terms.specs.declared.Status.TheVariants.{Done, Damg}
 use Rattle.terms.specs.Status.{is_done}
@@ -16,6 +19,16 @@ pub record Ends (o : Outcome) (s : Status) (r : ℕ) (a b : List ℕ) : Type 0 w
   pub reference : r ≡ o.reference
   pub area : a ≡ o.area
   pub base : b ≡ o.base
+
+-- the reference that a call returns: a refused one gives back what it was given
+abbrev pub reference_of : ℕ → Result Reference Refusal → ℕ
+reference_of given (Ok r) = r.0
+reference_of given (Err _) = given
+
+-- the number of a record, 0 for none
+abbrev pub number_of : Option RecordNo → ℕ
+number_of (Some r) = r.0
+number_of None = 0
 
 -- a record that is given, or none: r is 0
 unfoldable pub gave : List ℕ → Entry → ℕ → List ℕ → Outcome

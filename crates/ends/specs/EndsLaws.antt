@@ -8,8 +8,9 @@ use Rattle.terms.specs.declared.Status.{Status}
 use Rattle.terms.specs.declared.Status.TheVariants.{Done, Damg}
 use Rattle.terms.specs.declared.Operation.TheVariants.{Formt}
 use Rattle.terms.specs.Terms.{end_ref}
-use Rattle.terms.specs.Status.{status_number, is_done, first_of}
-use Rattle.terms.specs.Laws.{status-number-one, not_done}
+use Rattle.terms.specs.declared.Refusal.{Refusal}
+use Rattle.terms.specs.Status.{status_number, is_done, first_of, status_by}
+use Rattle.terms.specs.Laws.{status-number-one, not_done, refusal-not-done, refusal-counts}
 use Rattle.blocks.specs.declared.Check.{Check}
 use Rattle.blocks.specs.Blocks.{check_by}
 use Rattle.schema.specs.declared.Entry.{Entry}
@@ -28,6 +29,9 @@ pub refused-ends : (x : Scene) (c : Call) (s t : Status) → s ≡ t → 0 < sta
 unfolding answered
 refused-ends x c s t e h = rw (e, not_done t h) (record { status = refl; reference = refl; area = refl; base = refl })
 
+pub refused-err : (x : Scene) (c : Call) (s : Status) (why : Refusal) → s ≡ status_by why → Ends (answered x c s) (status_by why) c.reference c.area c.base
+refused-err x c s why e = refused-ends x c s (status_by why) e (refusal-counts why)
+
 -- ---- a record that is given, or none
 
 module _ (b : List ℕ) (e : Entry) (r : ℕ) (area : List ℕ) where
@@ -45,6 +49,10 @@ module _ (d : Check) (s : Status) (b : List ℕ) (xs : List Store) (after refere
   pub settled-refused : {u : Status} {q : ℕ} → (status_number s ≡ 0 → ⊥) → u ≡ s → q ≡ reference → Ends (settled d s b xs after reference area) u q area b
   unfolding settled
   settled-refused h e f = rw (ne_eqb (status_number s) 0 h) (record { status = e; reference = f; area = refl; base = refl })
+
+  pub settled-err : (why : Refusal) → s ≡ status_by why → Ends (settled d s b xs after reference area) (status_by why) reference area b
+  unfolding settled
+  settled-err why h = rw (h, refusal-not-done why) (record { status = refl; reference = refl; area = refl; base = refl })
 
   pub settled-done : {u : Status} {q : ℕ} {new : List ℕ} {r : Bool} → status_number s ≡ 0 → r ≡ blocks_sealed d b xs → r ≡ true
       → new ≡ cond (blocks_sealed d b xs) (committed d b xs) b → u ≡ Done → q ≡ after → Ends (settled d s b xs after reference area) u q area new

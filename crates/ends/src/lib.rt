@@ -1,19 +1,20 @@
 // How a call ends: refused, with a record that is given, or with stores that are committed.
 #![tactic(auto)]
 
-ghost use Rattle.std.specs.Prelude.{◌≡◌, ◌≤◌, length};
+ghost use Rattle.std.specs.Prelude.{◌≡◌, ℕ, length, IfSome};
 ghost use Rattle.blocks.specs.Blocks.{check_by};
-ghost use Rattle.schema.specs.Place.{LiesIn};
+ghost use Rattle.schema.specs.Place.{LiesIn, InSet};
 ghost use Rattle.records.specs.Areas.{area_length};
 ghost use Rattle.terms.specs.declared.Status.TheVariants.{Done};
+ghost use Rattle.terms.specs.Status.{status_of};
 ghost use Rattle.records.specs.Fields.{Fields};
 ghost use Rattle.plans.specs.PlanOk.{PlanOk, AreaOk};
 ghost use Rattle.plans.specs.Stores.{plan_stores};
-ghost use Rattle.ends.specs.Ends.{Ends, gave, settled};
+ghost use Rattle.ends.specs.Ends.{Ends, number_of, reference_of, gave, settled};
 
-use plans::Planned;
+use plans::Plan;
 use schema::Entry;
-use terms::{RecordNo, Reference, Status};
+use terms::{RecordNo, Reference, Refusal, Status};
 
 // What a call returns.
 #[derive(Clone, Copy)]
@@ -22,53 +23,57 @@ pub struct Answer {
     pub reference: Reference,
 }
 
-pub fn ended(status: Status, reference: Reference) -> Answer
-    ensures { (result.status ≡ status) × (result.reference ≡ reference) }
-{
-    Answer { status, reference }
+impl Answer {
+    // A refused call gives back the reference that it was given.
+    pub fn of(ended: Result<Reference, Refusal>, given: Reference) -> Answer
+        ensures status { result.status ≡ status_of ended }
+        ensures reference { result.reference.0 ≡ reference_of given.0 ended }
+    {
+        match ended {
+            Ok(reference) => Answer {
+                status: Status::Done,
+                reference,
+            },
+            Err(why) => Answer {
+                status: why.into(),
+                reference: given,
+            },
+        }
+    }
 }
 
-// A read that is done gives the record r; 0 is none: "No such record: status 0, reference END., area untouched."
-pub fn give(base: &[u8], e: Entry, r: u32, area: &mut [u8]) -> Answer
+// A read that is done gives the record: "No such record: status 0, reference END., area untouched."
+pub fn give(base: &[u8], e: Entry, found: Option<RecordNo>, area: &mut [u8]) -> Reference
     requires lies_in { LiesIn e (length base.now) }
     requires fields { Fields e }
-    requires r_le_records { r ≤ e.records }
+    requires in_set { IfSome found (λ r. InSet e r.0) }
     requires area_len { length area.old ≡ area_length e }
-    ensures { Ends (gave base.now e r area.old) result.status result.reference.0 area.new base.now }
+    ensures { Ends (gave base.now e (number_of found) area.old) Done result.0 area.new base.now }
 {
-    if r == 0 {
-        return Answer {
-            status: Status::Done,
-            reference: Reference::end(),
-        };
-    }
-    areas::read_area(base, e, RecordNo(r), area);
-    Answer {
-        status: Status::Done,
-        reference: Reference::number(RecordNo(r)),
-    }
+    let Some(r) = found else {
+        return Reference::end();
+    };
+    areas::read_area(base, e, r, area);
+    Reference::number(r)
 }
 
-// A call that stores: what its tests came to, its plan, and the reference that it returns where it is done.
+// A call that stores: its plan, and the reference that it returns where it is done.
 pub fn settle(
     base: &mut [u8],
     e: Entry,
     area: &[u8],
-    planned: Planned,
+    plan: Plan,
     after: Reference,
-    reference: Reference,
-) -> Answer
+) -> Result<Reference, Refusal>
     requires lies_in { LiesIn e (length base.old) }
     requires fields { Fields e }
-    requires plan_ok { planned.status ≡ Done → PlanOk (length base.old) e planned.plan × AreaOk planned.plan.head e area.now }
-    ensures { Ends (settled (check_by e.edition) planned.status base.old (plan_stores base.old e area.now planned.plan) after.0 reference.0 area.now) result.status result.reference.0 area.now base.new }
+    requires plan_ok { PlanOk (length base.old) e plan }
+    requires area_ok { AreaOk plan.head e area.now }
+    ensures { (given : ℕ) → Ends (settled (check_by e.edition) Done base.old (plan_stores base.old e area.now plan) after.0 given area.now) (status_of result) (reference_of given result) area.now base.new }
 {
-    let status = planned.status;
-    if status.number() != 0 {
-        return ended(status, reference);
+    if commit::commit(base, e, area, plan) {
+        Ok(after)
+    } else {
+        Err(Refusal::Damg)
     }
-    if commit::commit(base, e, area, planned.plan) {
-        return ended(Status::Done, after);
-    }
-    ended(Status::Damg, reference)
 }

@@ -1,16 +1,17 @@
--- A refusal as it is made has its status, and its plan stores nothing.
-use Rattle.std.specs.Prelude.{◌≡◌, refl}
-use Rattle.terms.specs.declared.Status.{Status}
+-- A refusal's plan stores nothing.
+use Rattle.std.specs.Prelude.{ℕ, ◌≡◌, refl, List, [], Result, Ok, Err}
+use Rattle.terms.specs.declared.Refusal.{Refusal}
 use Rattle.terms.specs.declared.Status.TheVariants.{Done}
-use Rattle.plans.specs.declared.Planned.{Planned}
-use Rattle.plans.specs.Made.{refused_by, NoneRefused}
+use Rattle.terms.specs.Status.{status_of}
+use Rattle.schema.specs.declared.Entry.{Entry}
+use Rattle.plans.specs.declared.Plan.{Plan}
+use Rattle.plans.specs.Stores.{word_stores, plan_stores}
+use Rattle.plans.specs.Made.{no_plan, planned_of}
 
-module _ {q : Planned} {s : Status} (h : q ≡ refused_by s) where
-  pub refused-status : q.status ≡ s
-  refused-status = rw h refl
+pub none-refused : (q : Result Plan Refusal) → (status_of q ≡ Done → ⊥) → planned_of q ≡ no_plan
+none-refused (Ok p) n = absurd (n refl)
+none-refused (Err why) n = refl
 
-  pub refused_none : NoneRefused q
-  refused_none _ = rw h refl
-
-pub none-refused : {q : Planned} → q.status ≡ Done → NoneRefused q
-none-refused d n = absurd (n d)
+pub none_stored : (b : List ℕ) (e : Entry) (area : List ℕ) → plan_stores b e area no_plan ≡ []
+unfolding plan_stores word_stores
+none_stored b e area = refl

@@ -1,15 +1,13 @@
 -- Plans as they are made, field by field.
-use Rattle.std.specs.Prelude.{ℕ, ◌+◌, ◌≡◌, List, set, replicate}
+use Rattle.std.specs.Prelude.{ℕ, ◌+◌, List, set, replicate, Result, Ok, Err}
 use Rattle.terms.specs.declared.RecordNo.{RecordNo}
-use Rattle.terms.specs.declared.Status.{Status}
-use Rattle.terms.specs.declared.Status.TheVariants.{Done}
+use Rattle.terms.specs.declared.Refusal.{Refusal}
 use Rattle.records.specs.declared.Link.{Link}
 use Rattle.records.specs.Areas.{no_link}
 use Rattle.plans.specs.declared.Word.{Word}
 use Rattle.plans.specs.declared.Head.{Head}
 use Rattle.plans.specs.declared.Head.TheVariants.{Nothing, Body}
 use Rattle.plans.specs.declared.Plan.{Plan}
-use Rattle.plans.specs.declared.Planned.{Planned}
 
 -- nothing but a head
 abbrev pub head_plan : Head → RecordNo → RecordNo → List Link → Plan
@@ -31,12 +29,11 @@ lone_plan h r = head_plan h r (record { 0 = 0 }) (replicate 4 no_link)
 abbrev pub no_plan : Plan
 no_plan = lone_plan Nothing (record { 0 = 0 })
 
-abbrev pub refused_by : Status → Planned
-refused_by s = record { status = s; plan = no_plan }
-
-abbrev pub NoneRefused : Planned → Type 0
-NoneRefused q = (q.status ≡ Done → ⊥) → q.plan ≡ no_plan
+-- the plan of what reading came to
+abbrev pub planned_of : Result Plan Refusal → Plan
+planned_of (Ok p) = p
+planned_of (Err _) = no_plan
 
 -- WRITM's and WRITV's: the D bytes of the area go into the record
-abbrev pub body_planned : RecordNo → Planned
-body_planned r = record { status = Done; plan = lone_plan Body r }
+abbrev pub body_plan : RecordNo → Plan
+body_plan r = lone_plan Body r

@@ -3,11 +3,11 @@
 
 ghost use Rattle.std.specs.Prelude.{◌≡◌, ◌++◌, ◌∷◌, [], ◌<◌};
 ghost use Rattle.plans.specs.Stores.{words_of, word_in};
-ghost use Rattle.plans.specs.Made.{head_plan, with_word, with_wiped, refused_by, body_planned};
+ghost use Rattle.plans.specs.Made.{head_plan, with_word, with_wiped, body_plan};
 
 use records::Link;
 use schema::Part;
-use terms::{RecordNo, Status};
+use terms::RecordNo;
 
 // A linkage field of a record, and what it becomes. The record is a part of the data base.
 #[derive(Clone, Copy)]
@@ -47,13 +47,6 @@ pub struct Plan {
     pub count: usize,
     // the record that is wiped in the end, 0 for none
     pub wiped: u32,
-}
-
-// What reading came to: a refusal, or, where the status is Done, what is to be stored.
-#[derive(Clone, Copy)]
-pub struct Planned {
-    pub status: Status,
-    pub plan: Plan,
 }
 
 impl Word {
@@ -115,23 +108,10 @@ impl Plan {
     }
 }
 
-// A refusal: nothing is to be stored.
-pub fn refused(status: Status) -> Planned
-    ensures { result ≡ refused_by status }
-{
-    let none = [Link { prior: 0, next: 0 }; 4];
-    let plan = Plan::of(Head::Nothing, RecordNo(0), RecordNo(0), none);
-    Planned { status, plan }
-}
-
 // WRITM's and WRITV's plan: the D bytes of the area go into the record r.
-pub fn body_plan(r: RecordNo) -> Planned
-    ensures { result ≡ body_planned r }
+pub fn body_plan(r: RecordNo) -> Plan
+    ensures { result ≡ body_plan r }
 {
     let none = [Link { prior: 0, next: 0 }; 4];
-    let plan = Plan::of(Head::Body, r, RecordNo(0), none);
-    Planned {
-        status: Status::Done,
-        plan,
-    }
+    Plan::of(Head::Body, r, RecordNo(0), none)
 }

@@ -1,9 +1,10 @@
 use borrow.Author.Rules.{rules}
+use Rattle.std.proofs.Common.{arith}
 use Rattle.ends.specs.EndsLaws.{gave-none, gave_some}
 use Rattle.ends.proofs.give.Goals as goal
 
-pub returns-then-r-eq0 : goal.returns-then-r-eq0
-returns-then-r-eq0 c = search (rules, gave-none)
+pub returns-in_default : goal.returns-in_default
+returns-in_default c = search (rules, gave-none)
 
 pub returns : goal.returns
-returns c = search (rules, gave_some)
+returns c = rw c.in-Some.is (gave_some _ _ _ _ (let h = rw c.in-Some.is at c.requires.in_set in λ z. omega arith) (search rules) (search rules))
