@@ -4,6 +4,7 @@
 ghost use Rattle.std.specs.Prelude.{◌≡◌, false, true, ◌&&◌, ◌||◌, ◌<◌, ◌≤◌, length};
 ghost use Rattle.octets.specs.Octets.{all_blank};
 ghost use Rattle.terms.specs.Terms.{key_of};
+ghost use Rattle.terms.specs.Status.{status_of};
 ghost use Rattle.schema.specs.Place.{InSet, LiesIn};
 ghost use Rattle.records.specs.Areas.{is_master, area_length};
 ghost use Rattle.records.specs.Fields.{Fields};
@@ -12,7 +13,7 @@ ghost use Rattle.forms.specs.Form.{rungs_of, form_status, decided, wrong_referen
 
 use schema::Entry;
 use schema::layout::{path_of, record_of};
-use terms::{Key, Operation, RecordNo, Reference, Status};
+use terms::{Key, Operation, RecordNo, Reference, Refusal};
 
 // Which tests of its parameters an operation has.
 #[derive(Clone, Copy)]
@@ -52,11 +53,11 @@ fn row(
     }
 }
 
-impl Rungs {
+impl From<Operation> for Rungs {
+    ghost from_gives = { λ o q. q ≡ rungs_of o };
+
     // The tests of an operation: area, key, blank, same, link, sweep, last, number.
-    pub fn of(o: Operation) -> Rungs
-        ensures { result ≡ rungs_of o }
-    {
+    fn from(o: Operation) -> Rungs {
         match o {
             Operation::Formt => row(false, false, false, false, false, false, false, false),
             Operation::Sinon => row(false, false, false, false, false, false, false, false),
@@ -86,18 +87,15 @@ fn blank_path_key(e: Entry, area: &[u8]) -> bool
     requires area_len { length area.now ≡ area_length e }
     ensures { result ≡ blank_area_key e area.now }
 {
-    let count = e.count as usize;
     let mut at: usize = 0;
-    let mut j: usize = 0;
-    while j < count {
+    for j in 0..usize::from(e.count) {
         let p = path_of(e, j);
-        let len = p.len as usize;
+        let len = usize::from(p.len);
         let key = Key::part(area, at, len);
         if key.is_blank() {
             return true;
         }
         at += len;
-        j += 1;
     }
     false
 }
@@ -112,7 +110,7 @@ fn blank_area_key(asked: bool, e: Entry, area: &[u8]) -> bool
         return false;
     }
     if e.kind == 1 {
-        let key = Key::part(area, 0, e.key as usize);
+        let key = Key::part(area, 0, usize::from(e.key));
         return key.is_blank();
     }
     blank_path_key(e, area)
@@ -130,12 +128,12 @@ fn other_area_key(asked: bool, e: Entry, on: usize, control: Key, area: &[u8]) -
         return false;
     }
     if e.kind == 1 {
-        let key = Key::part(area, 0, e.key as usize);
+        let key = Key::part(area, 0, usize::from(e.key));
         return !key.same(control);
     }
     let at = areas::area_key_place(e, on);
     let p = path_of(e, on);
-    let key = Key::part(area, at, p.len as usize);
+    let key = Key::part(area, at, usize::from(p.len));
     !key.same(control)
 }
 
@@ -154,31 +152,38 @@ fn wrong_reference(q: Rungs, e: Entry, link: u32, reference: u32) -> bool
 }
 
 // The first test that refuses decides.
-fn decide(control: bool, blank: bool, other: bool, reference: bool) -> Status
-    ensures { result ≡ decided control blank other reference }
+fn decide(control: bool, blank: bool, other: bool, reference: bool) -> Result<(), Refusal>
+    ensures { status_of result ≡ decided control blank other reference }
 {
     if control {
-        return Status::Bctl;
+        return Err(Refusal::Bctl);
     }
     if blank {
-        return Status::Bctl;
+        return Err(Refusal::Bctl);
     }
     if other {
-        return Status::Keys;
+        return Err(Refusal::Keys);
     }
     if reference {
-        return Status::Ivrp;
+        return Err(Refusal::Ivrp);
     }
-    Status::Done
+    Ok(())
 }
 
 // The tests 9 to 11 of a call whose control key has its length; `wrong` is test 11's answer.
-fn key_status(q: Rungs, e: Entry, on: usize, control: Key, area: &[u8], wrong: bool) -> Status
+fn key_status(
+    q: Rungs,
+    e: Entry,
+    on: usize,
+    control: Key,
+    area: &[u8],
+    wrong: bool,
+) -> Result<(), Refusal>
     requires fields { Fields e }
     requires len_bound { control.len ≤ 16 }
     requires area_len { (q.blank || q.same) ≡ true → length area.now ≡ area_length e }
     requires on_lt_count { is_master e ≡ false → q.same ≡ true → on < e.count }
-    ensures { result ≡ decided (all_blank (key_of control)) (q.blank && blank_area_key e area.now) (q.same && other_area_key e on (key_of control) area.now) wrong }
+    ensures { status_of result ≡ decided (all_blank (key_of control)) (q.blank && blank_area_key e area.now) (q.same && other_area_key e on (key_of control) area.now) wrong }
 {
     let empty = control.is_blank();
     let blank = blank_area_key(q.blank, e, area);
@@ -197,23 +202,23 @@ pub fn form_status(
     reference: u32,
     key: &[u8],
     area: &[u8],
-) -> Status
+) -> Result<(), Refusal>
     requires fields { Fields e }
     requires on_lt_count { is_master e ≡ false → (rungs_of o).same ≡ true → on < e.count }
     requires k_bound { k ≤ 16 }
-    ensures { result ≡ form_status o e on link k reference key.now area.now }
+    ensures { status_of result ≡ form_status o e on link k reference key.now area.now }
 {
-    let q = Rungs::of(o);
+    let q = Rungs::from(o);
     let fits = area.len() == areas::area_length(e);
     if q.area & !fits {
-        return Status::Area;
+        return Err(Refusal::Area);
     }
     let wrong = wrong_reference(q, e, link, reference);
     if !q.key {
         return decide(false, false, false, wrong);
     }
-    if key.len() != (k as usize) {
-        return Status::Klen;
+    if key.len() != usize::from(k) {
+        return Err(Refusal::Klen);
     }
     let control = Key::of(key);
     key_status(q, e, on, control, area, wrong)
@@ -229,18 +234,16 @@ pub fn other_stored_key(base: &[u8], e: Entry, r: RecordNo, area: &[u8]) -> bool
     ensures { result ≡ other_stored_key base.now e r.0 area.now }
 {
     let part = record_of(base, e, r);
-    let paths = e.count as usize;
     let mut at: usize = 0;
-    let mut j: usize = 0;
-    while j < paths {
+    for j in 0..usize::from(e.count) {
         let p = path_of(e, j);
-        let len = p.len as usize;
+        let len = usize::from(p.len);
         let key = Key::part(area, at, len);
-        if !key.at(part, p.at as usize) {
+        let stored = key.at(part, usize::from(p.at));
+        if !stored {
             return true;
         }
         at += len;
-        j = j + 1;
     }
     false
 }

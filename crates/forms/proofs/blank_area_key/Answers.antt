@@ -14,7 +14,7 @@ returns-then-not-asked c = let a = c.args in not-asked a.asked (blank_area_key a
 
 pub part-key-requires : goal.part-key-requires
 part-key-requires c =
-    (c.requires.fields.short, omega (arith, c.requires.area_len ((let by_asked : c.args.asked ≡ true = c.if-not-asked.false in by_asked)), master_keys c.args.e (eq-eqb _ _ c.if-e-eq1.true)))
+    (rw c.from.ensures c.requires.fields.short, omega (arith, c.requires.area_len ((let by_asked : c.args.asked ≡ true = c.if-not-asked.false in by_asked)), master_keys c.args.e (eq-eqb _ _ c.if-e-eq1.true)))
 
 pub is_blank-requires : goal.is_blank-requires
 is_blank-requires c = omega (arith, c.part-key.ensures.1, c.requires.fields.short)
@@ -23,7 +23,7 @@ pub returns-then-e-eq1 : goal.returns-then-e-eq1
 returns-then-e-eq1 c =
     let a = c.args in
     is_asked a.asked (blank_area_key a.e a.area.now) c.is_blank.result ((let by_asked : c.args.asked ≡ true = c.if-not-asked.false in by_asked))
-    (c.is_blank.ensures ∙ ap all_blank c.part-key.ensures.0 ∙ sym (blank_master a.e a.area.now (eq-eqb _ _ c.if-e-eq1.true)))
+    (c.is_blank.ensures ∙ ap all_blank (rw c.from.ensures at c.part-key.ensures.0) ∙ sym (blank_master a.e a.area.now (eq-eqb _ _ c.if-e-eq1.true)))
 
 pub blank_path_key-requires : goal.blank_path_key-requires
 blank_path_key-requires c =

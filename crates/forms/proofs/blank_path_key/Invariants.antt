@@ -1,5 +1,4 @@
 -- `forms::blank_path_key` meets its contract. The invariant: `at` is the place of path j's key, and no key before it is blank.
-use Prim.Native.Nat.{◌-◌, ◌≤◌}
 use mathlib.Core.Path.{◌≡◌}
 use mathlib.Core.Bool.{true}
 use Rattle.octets.specs.Below.{all_below}
@@ -8,7 +7,4 @@ use Rattle.forms.specs.FormLaws.{not_blank}
 use Rattle.forms.proofs.blank_path_key.Given as goal
 
 abbrev pub invariant-loop-j : goal.invariant-loop-j
-invariant-loop-j l = (l.j ≤ l.e.count) × (l.at ≡ area_key_place l.e l.j) × (all_below (not_blank l.e l.area) l.j ≡ true)
-
-abbrev pub decreases-loop-j : goal.decreases-loop-j
-decreases-loop-j l = l.count - l.j
+invariant-loop-j l = (l.at ≡ area_key_place l.e l.j) × (all_below (not_blank l.e l.area) l.j ≡ true)

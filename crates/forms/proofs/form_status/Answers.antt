@@ -14,32 +14,32 @@ use Rattle.forms.proofs.form_status.Goals as goal
 pub returns-then-q-fits : goal.returns-then-q-fits
 returns-then-q-fits c =
     let a = c.args in
-    form-area a.o a.e a.on a.link a.k a.reference a.key.now a.area.now (rw (c.area_length.ensures, c.of-q.ensures) at c.if-q-fits.true)
+    form-area a.o a.e a.on a.link a.k a.reference a.key.now a.area.now (rw (c.area_length.ensures, c.from-q.ensures) at c.if-q-fits.true)
 
 pub returns-then-not-q : goal.returns-then-not-q
 returns-then-not-q c =
     let a = c.args in
     c.decide.ensures
-    ∙ (rw (c.wrong_reference-wrong.ensures, c.of-q.ensures)
-    (form-keyless a.o a.e a.on a.link a.k a.reference a.key.now a.area.now ((let by_fits2 : (let a = c.args in ((rungs_of a.o).area && not (eqb (length a.area.now) (area_length a.e))) ≡ false) = rw (c.area_length.ensures, c.of-q.ensures) at c.if-q-fits.false in by_fits2))
-    (rw c.of-q.ensures at (not-true c.of-q.result.key c.if-not-q.true))))
+    ∙ (rw (c.wrong_reference-wrong.ensures, c.from-q.ensures)
+    (form-keyless a.o a.e a.on a.link a.k a.reference a.key.now a.area.now ((let by_fits2 : (let a = c.args in ((rungs_of a.o).area && not (eqb (length a.area.now) (area_length a.e))) ≡ false) = rw (c.area_length.ensures, c.from-q.ensures) at c.if-q-fits.false in by_fits2))
+    (rw c.from-q.ensures at (not-true c.from-q.result.key c.if-not-q.true))))
 
-pub returns-then-key-k : goal.returns-then-key-k
-returns-then-key-k c =
+pub returns-then-key-from : goal.returns-then-key-from
+returns-then-key-from c =
     let a = c.args in
-    form_klen a.o a.e a.on a.link a.k a.reference a.key.now a.area.now ((let by_fits3 : (let a = c.args in ((rungs_of a.o).area && not (eqb (length a.area.now) (area_length a.e))) ≡ false) = rw (c.area_length.ensures, c.of-q.ensures) at c.if-q-fits.false in by_fits3)) ((let by_keyed2 : (rungs_of c.args.o).key ≡ true = rw c.of-q.ensures at (not-false c.of-q.result.key c.if-not-q.false) in by_keyed2)) c.if-key-k.true
+    form_klen a.o a.e a.on a.link a.k a.reference a.key.now a.area.now ((let by_fits3 : (let a = c.args in ((rungs_of a.o).area && not (eqb (length a.area.now) (area_length a.e))) ≡ false) = rw (c.area_length.ensures, c.from-q.ensures) at c.if-q-fits.false in by_fits3)) ((let by_keyed2 : (rungs_of c.args.o).key ≡ true = rw c.from-q.ensures at (not-false c.from-q.result.key c.if-not-q.false) in by_keyed2)) (rw c.from.ensures at c.if-key-from.true)
 
 pub of-control-requires : goal.of-control-requires
 of-control-requires c =
-    omega (arith, c.if-key-k.false, c.requires.k_bound)
+    omega (arith, c.if-key-from.false, c.requires.k_bound)
 
 pub key_status-requires : goal.key_status-requires
 key_status-requires c =
-    let q = c.of-q.ensures in record { fields = c.requires.fields; len_bound = omega (arith, c.of-control.ensures.1, c.if-key-k.false, c.requires.k_bound); area_len = λ h. area-fits c.args.o ((let by_fits2 : (let a = c.args in ((rungs_of a.o).area && not (eqb (length a.area.now) (area_length a.e))) ≡ false) = rw (c.area_length.ensures, c.of-q.ensures) at c.if-q-fits.false in by_fits2)) (rw q at h); on_lt_count = λ v h. c.requires.on_lt_count v (sym (ap (λ (x : Rungs). x.same) q) ∙ h) }
+    let q = c.from-q.ensures in record { fields = c.requires.fields; len_bound = omega (arith, c.of-control.ensures.1, c.if-key-from.false, c.requires.k_bound); area_len = λ h. area-fits c.args.o ((let by_fits2 : (let a = c.args in ((rungs_of a.o).area && not (eqb (length a.area.now) (area_length a.e))) ≡ false) = rw (c.area_length.ensures, c.from-q.ensures) at c.if-q-fits.false in by_fits2)) (rw q at h); on_lt_count = λ v h. c.requires.on_lt_count v (sym (ap (λ (x : Rungs). x.same) q) ∙ h) }
 
 pub returns : goal.returns
 returns c =
     let a = c.args in
     c.key_status.ensures
-    ∙ (rw (c.wrong_reference-wrong.ensures, c.of-control.ensures.0, c.of-q.ensures)
-    (form_keys a.o a.e a.on a.link a.k a.reference a.key.now a.area.now ((let by_fits3 : (let a = c.args in ((rungs_of a.o).area && not (eqb (length a.area.now) (area_length a.e))) ≡ false) = rw (c.area_length.ensures, c.of-q.ensures) at c.if-q-fits.false in by_fits3)) ((let by_keyed2 : (rungs_of c.args.o).key ≡ true = rw c.of-q.ensures at (not-false c.of-q.result.key c.if-not-q.false) in by_keyed2)) c.if-key-k.false))
+    ∙ (rw (c.wrong_reference-wrong.ensures, c.of-control.ensures.0, c.from-q.ensures)
+    (form_keys a.o a.e a.on a.link a.k a.reference a.key.now a.area.now ((let by_fits3 : (let a = c.args in ((rungs_of a.o).area && not (eqb (length a.area.now) (area_length a.e))) ≡ false) = rw (c.area_length.ensures, c.from-q.ensures) at c.if-q-fits.false in by_fits3)) ((let by_keyed2 : (rungs_of c.args.o).key ≡ true = rw c.from-q.ensures at (not-false c.from-q.result.key c.if-not-q.false) in by_keyed2)) (c.if-key-from.false ∙ c.from.ensures)))

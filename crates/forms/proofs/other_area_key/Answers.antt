@@ -17,7 +17,7 @@ returns-then-not-asked c = let a = c.args in not-asked a.asked (other_area_key a
 
 pub part-key-requires : goal.part-key-requires
 part-key-requires c =
-    (c.requires.fields.short, omega (arith, c.requires.area_len ((let by_asked : c.args.asked ≡ true = c.if-not-asked.false in by_asked)), master_keys c.args.e (eq-eqb _ _ c.if-e-eq1.true)))
+    (rw c.from.ensures c.requires.fields.short, omega (arith, c.requires.area_len ((let by_asked : c.args.asked ≡ true = c.if-not-asked.false in by_asked)), master_keys c.args.e (eq-eqb _ _ c.if-e-eq1.true)))
 
 pub same-requires : goal.same-requires
 same-requires c = (omega (arith, c.part-key.ensures.1, c.requires.fields.short), c.requires.len_bound)
@@ -26,7 +26,7 @@ pub returns-then-e-eq1 : goal.returns-then-e-eq1
 returns-then-e-eq1 c =
     let a = c.args in
     is_asked a.asked (other_area_key a.e a.on (key_of a.control) a.area.now) (not c.same.result) ((let by_asked : c.args.asked ≡ true = c.if-not-asked.false in by_asked))
-    (ap not (rw c.part-key.ensures.0 at c.same.ensures) ∙ sym (other_master-key a.e a.area.now a.on (key_of a.control) (eq-eqb _ _ c.if-e-eq1.true)))
+    (ap not (rw (c.part-key.ensures.0, c.from.ensures) at c.same.ensures) ∙ sym (other_master-key a.e a.area.now a.on (key_of a.control) (eq-eqb _ _ c.if-e-eq1.true)))
 
 pub area_key_place-at-requires : goal.area_key_place-at-requires
 area_key_place-at-requires c = omega (arith, (let by_within : c.args.on < c.args.e.count = c.requires.on_lt_count (ne_eqb _ _ c.if-e-eq1.false) ((let by_asked2 : c.args.asked ≡ true = c.if-not-asked.false in by_asked2)) in by_within), c.requires.fields.few)
@@ -48,4 +48,4 @@ pub returns : goal.returns
 returns c =
     let a = c.args in
     is_asked a.asked (other_area_key a.e a.on (key_of a.control) a.area.now) (not c.same-2.result) ((let by_asked : c.args.asked ≡ true = c.if-not-asked.false in by_asked))
-    (ap not (rw (c.part-key-2.ensures.0, c.path_of-p.ensures, c.area_key_place-at.ensures) at c.same-2.ensures) ∙ sym (other_path a.e a.area.now a.on (key_of a.control) (ne_eqb _ _ c.if-e-eq1.false)))
+    (ap not (rw (c.part-key-2.ensures.0, c.from-2.ensures, c.path_of-p.ensures, c.area_key_place-at.ensures) at c.same-2.ensures) ∙ sym (other_path a.e a.area.now a.on (key_of a.control) (ne_eqb _ _ c.if-e-eq1.false)))

@@ -1,5 +1,5 @@
 -- `forms::other_stored_key` meets its contract. The invariant: `at` is the place of path j's key, and each before it is the stored one.
-use Prim.Native.Nat.{ℕ, ◌-◌, ◌≤◌}
+use Prim.Native.Nat.{ℕ}
 use mathlib.Core.Path.{◌≡◌}
 use mathlib.Core.Bool.{Bool, true}
 use mathlib.Core.List.{List}
@@ -15,7 +15,4 @@ abbrev pub same_in : List ℕ → Entry → List ℕ → ℕ → Bool
 same_in part e area k = same_bytes (area_key_on e area k) (run part (path_of e k).at (path_of e k).len)
 
 abbrev pub invariant-loop-j : goal.invariant-loop-j
-invariant-loop-j l = (l.j ≤ l.e.count) × (l.at ≡ area_key_place l.e l.j) × (all_below (same_in l.part l.e l.area) l.j ≡ true)
-
-abbrev pub decreases-loop-j : goal.decreases-loop-j
-decreases-loop-j l = l.paths - l.j
+invariant-loop-j l = (l.at ≡ area_key_place l.e l.j) × (all_below (same_in l.part l.e l.area) l.j ≡ true)
