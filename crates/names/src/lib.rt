@@ -3,18 +3,20 @@
 
 ghost use Rattle.std.specs.Prelude.{◌≡◌, length};
 ghost use Rattle.octets.specs.Octets.{same_bytes};
+ghost use Rattle.schema.specs.Decode.{set_count};
 ghost use Rattle.schema.specs.Guarantee.{SchemaOk};
 ghost use Rattle.schema.specs.Naming.{set_named, path_name, path_named};
+ghost use Rattle.schema.specs.Numbers.{entry_below, number_below};
 ghost use Rattle.names.specs.Names.{LeadsToMasters, Named};
 
 use schema::{Entry, Path, Schema, layout};
 use terms::EntryNo;
 
-// The number of the set of that name; the number of sets where there is none.
-pub fn set_named(t: Schema, name: &[u8]) -> EntryNo
+// The number of the set of that name, if there is one.
+pub fn set_named(t: Schema, name: &[u8]) -> Option<EntryNo>
     requires schema_ok { SchemaOk t }
     requires name_len { length name.now ≡ 4 }
-    ensures { result.0 ≡ set_named t name.now }
+    ensures { result ≡ entry_below (set_count t) (set_named t name.now) }
 {
     layout::set_of(t, octets::word(name, 0))
 }
@@ -37,19 +39,16 @@ fn is_named(t: Schema, p: Path, name: &[u8]) -> bool
     octets::word(name, 4) == link.0
 }
 
-// The number of the path of that name in the set; its path count where there is none.
-pub fn path_named(t: Schema, e: Entry, name: &[u8]) -> usize
+// The number of the path of that name in the set, if there is one.
+pub fn path_named(t: Schema, e: Entry, name: &[u8]) -> Option<usize>
     requires { LeadsToMasters t e }
-    ensures { result ≡ path_named t e name.now }
+    ensures { result ≡ number_below e.count (path_named t e name.now) }
 {
-    let n = e.count as usize;
-    let mut j: usize = 0;
-    while j < n {
+    for j in 0..e.count as usize {
         let p = layout::path_of(e, j);
         if is_named(t, p, name) {
-            return j;
+            return Some(j);
         }
-        j += 1;
     }
-    n
+    None
 }

@@ -3,6 +3,7 @@ pub mod Rules
 pub mod Layout
 pub mod Decode
 pub mod Naming
+pub mod Numbers
 pub mod Place
 pub mod Formed
 pub mod Guarantee

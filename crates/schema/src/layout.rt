@@ -6,6 +6,7 @@ ghost use Rattle.blocks.specs.Blocks.{block_at};
 ghost use Rattle.schema.specs.Decode.{entry_of, path_of, set_count};
 ghost use Rattle.schema.specs.Guarantee.{SchemaOk};
 ghost use Rattle.schema.specs.Naming.{set_of};
+ghost use Rattle.schema.specs.Numbers.{entry_below};
 ghost use Rattle.schema.specs.Place.{InSet, LiesIn, block_of, place_of, record_of, part_of, bytes_of, stretch_from, next_stretch, stretch_of, blocks_held, records_held, leftover_of};
 
 use super::{Entry, Part, Path, Schema, Stretch};
@@ -28,21 +29,19 @@ pub fn sets(t: Schema) -> u8
     t.masters + t.variables
 }
 
-// The number of the set whose name is that word; the number of sets where there is none.
-pub fn set_of(t: Schema, name: u32) -> EntryNo
+// The number of the set whose name is that word, if there is one.
+pub fn set_of(t: Schema, name: u32) -> Option<EntryNo>
     requires { SchemaOk t }
-    ensures { result.0 ≡ set_of t name }
+    ensures { result ≡ entry_below (set_count t) (set_of t name) }
 {
     let n = sets(t);
-    let mut i: u8 = 0;
-    while i < n {
+    for i in 0..n {
         let e = t.entries[i as usize];
         if e.name == name {
-            return EntryNo(i);
+            return Some(EntryNo(i));
         }
-        i += 1;
     }
-    EntryNo(n)
+    None
 }
 
 // The path in a slot of a set.

@@ -1,5 +1,5 @@
--- `scan::lowest_free` meets its contract: the scan for a free record from the first on. Assumes nothing.
-use native.Mathlib.Nat.{sub-zero}
+-- `scan::lowest_free` meets its contract: the scan for a free record from the first on.
+use Rattle.std.proofs.Math.Nat.{sub-zero}
 use Rattle.scan.specs.Scan.{lowest_free}
 use Rattle.scan.proofs.lowest_free.Goals as goal
 

@@ -1,58 +1,60 @@
-use Prim.Native.Nat.{ℕ, ◌+◌, ◌*◌, ◌-◌, ◌≤◌}
-use mathlib.Core.Path.{◌≡◌, refl, sym, ap, ◌∙◌}
-use native.Mathlib.Omega.{arith}
-use lib.ListN.{length}
+use Rattle.std.proofs.Common.{◌+◌, ◌*◌, ◌-◌, refl, sym, ◌∙◌, arith}
 use Rattle.octets.specs.SpliceLaws.{length_run}
 use Rattle.octets.specs.BelowLaws.{lowest_from_end}
-use Rattle.schema.specs.Place.{stretch_from}
+use Rattle.schema.specs.Numbers.{some_number, no_number_below, record_here, record_nowhere}
 use Rattle.schema.proofs.PlaceLaws.{some-held, few-held, stretch_inside, stretch_next}
 use Rattle.scan.specs.Wanted.{wanted}
 use Rattle.scan.specs.ScanLaws.{scan_hit, scan_miss}
-use borrow.Author.Rules.{rules}
 use Rattle.scan.proofs.scan.Goals as goal
 
-pub loop-passed-init : goal.loop-passed-init
-loop-passed-init c = (search rules, λ h. c.stretch_from-s.ensures, refl)
+pub records_of-requires-clause-size_in_bounds : goal.records_of-requires-clause-size_in_bounds
+records_of-requires-clause-size_in_bounds c =
+    stretch_inside c.loop-passed.passed c.loop-passed.s c.requires.lies_in c.loop-passed-test.true (c.loop-passed.invariant.enters c.loop-passed-test.true)
 
-pub records_of-requires : goal.records_of-requires
-records_of-requires c = record { size_in_bounds = (let by_ends2 : c.loop-passed.s.at + c.loop-passed.s.count * c.args.e.size ≤ length c.args.base.now = stretch_inside c.loop-passed.passed c.loop-passed.s c.requires.lies_in c.loop-passed-test.true ((let by_enters3 : c.loop-passed.s ≡ stretch_from c.args.e (c.loop-passed.passed + 1) = c.loop-passed.invariant.1 c.loop-passed-test.true in by_enters3)) in by_ends2); base_len_bound = c.requires.lies_in.small }
+pub in_block-requires-clause-size_in_bounds : goal.in_block-requires-clause-size_in_bounds
+in_block-requires-clause-size_in_bounds c =
+    let ends = stretch_inside c.loop-passed.passed c.loop-passed.s c.requires.lies_in c.loop-passed-test.true (c.loop-passed.invariant.enters c.loop-passed-test.true) in
+    rw (c.records_of.ensures, length_run c.args.base.now c.loop-passed.s.at (c.loop-passed.s.count * c.args.e.size) ends) (omega arith)
 
-pub in_block-i-requires : goal.in_block-i-requires
-in_block-i-requires c =
+pub overflow_add-result-in-Some : goal.overflow_add-result-in-Some
+overflow_add-result-in-Some c =
+    let few = few-held c.loop-passed.passed c.loop-passed.s c.requires.lies_in c.loop-passed-test.true (c.loop-passed.invariant.enters c.loop-passed-test.true) in
+    omega (arith, few, (some_number c.loop-passed.s.count _ c.in-Some.ensures).1, c.requires.lies_in.many)
+
+pub returns-in-Some : goal.returns-in-Some
+returns-in-Some c =
     let a = c.args in
-    record { size_in_bounds = rw (c.records_of.ensures, length_run a.base.now c.loop-passed.s.at (c.loop-passed.s.count * a.e.size) ((let by_ends3 : c.loop-passed.s.at + c.loop-passed.s.count * c.args.e.size ≤ length c.args.base.now = stretch_inside c.loop-passed.passed c.loop-passed.s c.requires.lies_in c.loop-passed-test.true ((let by_enters4 : c.loop-passed.s ≡ stretch_from c.args.e (c.loop-passed.passed + 1) = c.loop-passed.invariant.1 c.loop-passed-test.true in by_enters4)) in by_ends3))) (omega arith); le_size = c.requires.le_size }
-
-pub overflow_add-result-then-i-n : goal.overflow_add-result-then-i-n
-overflow_add-result-then-i-n c = omega (arith, (let by_few2 : c.loop-passed.passed + c.loop-passed.s.count ≤ c.args.e.records = few-held c.loop-passed.passed c.loop-passed.s c.requires.lies_in c.loop-passed-test.true ((let by_enters3 : c.loop-passed.s ≡ stretch_from c.args.e (c.loop-passed.passed + 1) = c.loop-passed.invariant.1 c.loop-passed-test.true in by_enters3)) in by_few2), c.requires.lies_in.many)
-
-pub returns-then-i-n : goal.returns-then-i-n
-returns-then-i-n c =
-    scan_hit c.loop-passed.passed c.loop-passed.s c.requires.lies_in c.loop-passed-test.true ((let by_enters : c.loop-passed.s ≡ stretch_from c.args.e (c.loop-passed.passed + 1) = c.loop-passed.invariant.1 c.loop-passed-test.true in by_enters)) c.requires.le_size c.args.live c.args.base.now c.in_block-i.result _ c.records_of.ensures c.in_block-i.ensures c.if-i-n.true
-    ∙ c.loop-passed.invariant.2
-
-pub overflow_add-passed : goal.overflow_add-passed
-overflow_add-passed c = omega (arith, (let by_few2 : c.loop-passed.passed + c.loop-passed.s.count ≤ c.args.e.records = few-held c.loop-passed.passed c.loop-passed.s c.requires.lies_in c.loop-passed-test.true ((let by_enters3 : c.loop-passed.s ≡ stretch_from c.args.e (c.loop-passed.passed + 1) = c.loop-passed.invariant.1 c.loop-passed-test.true in by_enters3)) in by_few2), c.requires.lies_in.many)
+    let s = c.loop-passed.s in
+    let enters = c.loop-passed.invariant.enters c.loop-passed-test.true in
+    let few = few-held c.loop-passed.passed s c.requires.lies_in c.loop-passed-test.true enters in
+    let i = some_number s.count _ c.in-Some.ensures in
+    let hit = scan_hit c.loop-passed.passed s c.requires.lies_in c.loop-passed-test.true enters c.requires.le_size a.live a.base.now c.in-Some.i _ c.records_of.ensures i.0 i.1 in
+    record_here a.e.records (c.loop-passed.passed + 1 + c.in-Some.i) _ (omega (arith, few, i.1)) (sym (hit ∙ c.loop-passed.invariant.left))
 
 pub next_stretch-s-requires : goal.next_stretch-s-requires
 next_stretch-s-requires c =
-    ((let by_few3 : c.loop-passed.passed + c.loop-passed.s.count ≤ c.args.e.records = few-held c.loop-passed.passed c.loop-passed.s c.requires.lies_in c.loop-passed-test.true ((let by_enters4 : c.loop-passed.s ≡ stretch_from c.args.e (c.loop-passed.passed + 1) = c.loop-passed.invariant.1 c.loop-passed-test.true in by_enters4)) in by_few3), omega (arith, (let by_ends2 : c.loop-passed.s.at + c.loop-passed.s.count * c.args.e.size ≤ length c.args.base.now = stretch_inside c.loop-passed.passed c.loop-passed.s c.requires.lies_in c.loop-passed-test.true ((let by_enters5 : c.loop-passed.s ≡ stretch_from c.args.e (c.loop-passed.passed + 1) = c.loop-passed.invariant.1 c.loop-passed-test.true in by_enters5)) in by_ends2), c.requires.lies_in.small))
+    let enters = c.loop-passed.invariant.enters c.loop-passed-test.true in
+    let ends = stretch_inside c.loop-passed.passed c.loop-passed.s c.requires.lies_in c.loop-passed-test.true enters in
+    (few-held c.loop-passed.passed c.loop-passed.s c.requires.lies_in c.loop-passed-test.true enters, omega (arith, ends, c.requires.lies_in.small))
 
 pub loop-passed-smaller : goal.loop-passed-smaller
 loop-passed-smaller c =
-    omega (arith, some-held c.loop-passed.passed c.loop-passed.s c.requires.lies_in c.loop-passed-test.true ((let by_enters : c.loop-passed.s ≡ stretch_from c.args.e (c.loop-passed.passed + 1) = c.loop-passed.invariant.1 c.loop-passed-test.true in by_enters)), c.loop-passed-test.true)
+    omega (arith, some-held c.loop-passed.passed c.loop-passed.s c.requires.lies_in c.loop-passed-test.true (c.loop-passed.invariant.enters c.loop-passed-test.true), c.loop-passed-test.true)
 
 pub loop-passed-preserved : goal.loop-passed-preserved
-loop-passed-preserved c = (
-  (let by_few6 : c.loop-passed.passed + c.loop-passed.s.count ≤ c.args.e.records = few-held c.loop-passed.passed c.loop-passed.s c.requires.lies_in c.loop-passed-test.true ((let by_enters7 : c.loop-passed.s ≡ stretch_from c.args.e (c.loop-passed.passed + 1) = c.loop-passed.invariant.1 c.loop-passed-test.true in by_enters7)) in by_few6),
-  λ h. c.next_stretch-s.ensures ∙ stretch_next c.loop-passed.passed c.loop-passed.s c.requires.lies_in c.loop-passed-test.true ((let by_enters : c.loop-passed.s ≡ stretch_from c.args.e (c.loop-passed.passed + 1) = c.loop-passed.invariant.1 c.loop-passed-test.true in by_enters)) h,
-  sym (scan_miss c.loop-passed.passed c.loop-passed.s c.requires.lies_in c.loop-passed-test.true ((let by_enters2 : c.loop-passed.s ≡ stretch_from c.args.e (c.loop-passed.passed + 1) = c.loop-passed.invariant.1 c.loop-passed-test.true in by_enters2)) c.requires.le_size c.args.live c.args.base.now c.in_block-i.result _ c.records_of.ensures c.in_block-i.ensures c.if-i-n.false)
-      ∙ c.loop-passed.invariant.2,
-)
+loop-passed-preserved c =
+    let s = c.loop-passed.s in
+    let enters = c.loop-passed.invariant.enters c.loop-passed-test.true in
+    let i = no_number_below s.count _ c.in_default.ensures in
+    let miss = scan_miss c.loop-passed.passed s c.requires.lies_in c.loop-passed-test.true enters c.requires.le_size c.args.live c.args.base.now _ _ c.records_of.ensures refl i in
+    record {
+      few = few-held c.loop-passed.passed s c.requires.lies_in c.loop-passed-test.true enters;
+      enters = λ h. c.next_stretch-s.ensures ∙ stretch_next c.loop-passed.passed s c.requires.lies_in c.loop-passed-test.true enters h;
+      left = sym miss ∙ c.loop-passed.invariant.left;
+    }
 
 pub returns : goal.returns
 returns c =
     let a = c.args in
-    let q : c.loop-passed.passed ≡ a.e.records = omega (arith, c.loop-passed.invariant.0, c.loop-passed-test.false) in
-    ap (λ (n : ℕ). n + 1) (sym q)
-    ∙ sym (lowest_from_end (wanted a.live a.base.now a.e) (a.e.records - c.loop-passed.passed) (c.loop-passed.passed + 1) (omega arith))
-    ∙ c.loop-passed.invariant.2
+    let x = lowest_from_end (wanted a.live a.base.now a.e) (a.e.records - c.loop-passed.passed) (c.loop-passed.passed + 1) (omega (arith, c.loop-passed-test.false)) in
+    record_nowhere a.e.records _ (omega (arith, x, c.loop-passed.invariant.left, c.loop-passed-test.false))
