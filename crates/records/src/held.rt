@@ -3,7 +3,8 @@
 ghost use Rattle.std.specs.Prelude.{◌≡◌, ◌+◌, ◌≤◌, length};
 ghost use Rattle.octets.specs.Octets.{run, word_at, same_bytes};
 ghost use Rattle.terms.specs.Terms.{key_of, key_from};
-ghost use Rattle.schema.specs.Place.{InSet, LiesIn, place_of, record_of};
+ghost use Rattle.schema.specs.Place.{InSet, place_of, record_of};
+ghost use Rattle.records.specs.InBase.{SetIn};
 ghost use Rattle.records.specs.Records.{state_of, is_live, root_next, root_prior, first_on, last_on, prior_on, next_on};
 
 use schema::{Entry, Path, layout};
@@ -13,7 +14,7 @@ use terms::{Key, RecordNo};
 pub struct Set<'a> {
     pub base: &'a [u8],
     pub entry: &'a Entry,
-    ghost lies_in: { LiesIn entry.now (length base.now) },
+    ghost held: { SetIn entry.now (length base.now) },
 }
 
 #[derive(Clone, Copy)]
@@ -21,7 +22,7 @@ pub struct Record<'a> {
     pub base: &'a [u8],
     pub entry: &'a Entry,
     pub number: RecordNo,
-    ghost lies_in: { LiesIn entry.now (length base.now) },
+    ghost held: { SetIn entry.now (length base.now) },
     ghost in_set: { InSet entry.now number.0 },
 }
 
@@ -50,7 +51,6 @@ impl<'a> Record<'a> {
 
     // The state byte.
     pub fn state(&self) -> u8
-        requires { 1 ≤ self.now.entry.now.size }
         ensures { result ≡ state_of self.now.base.now self.now.entry.now self.now.number.0 }
     {
         let bytes = self.bytes();
@@ -59,7 +59,6 @@ impl<'a> Record<'a> {
 
     // "Only state 1 counts as live; anything else is free."
     pub fn is_live(&self) -> bool
-        requires { 1 ≤ self.now.entry.now.size }
         ensures { result ≡ is_live self.now.base.now self.now.entry.now self.now.number.0 }
     {
         self.state() == 1
