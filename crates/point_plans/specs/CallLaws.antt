@@ -1,6 +1,6 @@
 -- The adds and DELVD, whole: the status that the code comes to is the ladder's, and the plan that it makes stands for the stores of the room
 -- `points` and may be committed.
-use Rattle.std.specs.Prelude.{ℕ, zero, suc, ◌+◌, ◌<◌, ◌≡◌, refl, Bool, true, false, cond, length}
+use Rattle.std.specs.Prelude.{ℕ, zero, suc, ◌+◌, ◌<◌, ◌≡◌, refl, Bool, true, false, cond, length, Result, Ok, Err, IfOk}
 use Rattle.std.proofs.Math.Path.{sym, ap}
 use Rattle.std.proofs.Common.{◌∙◌, arith, get_or-take}
 use mathlib.Core.List.{List, append-nil}
@@ -9,9 +9,10 @@ use Rattle.std.proofs.Math.ListN.{get_or}
 use Rattle.octets.specs.Octets.{run}
 use Rattle.octets.specs.Below.{upto, concat_below}
 use Rattle.octets.specs.BelowLaws.{get_d_upto}
+use Rattle.terms.specs.declared.Refusal.{Refusal}
 use Rattle.terms.specs.declared.Status.{Status}
 use Rattle.terms.specs.declared.Status.TheVariants.{Done, Mrnf, Full, Damg}
-use Rattle.terms.specs.Status.{is_done}
+use Rattle.terms.specs.Status.{is_done, status_of}
 use Rattle.schema.specs.declared.Entry.{Entry}
 use Rattle.schema.specs.declared.Part.{Part}
 use Rattle.schema.specs.declared.Schema.{Schema}
@@ -22,7 +23,6 @@ use Rattle.records.specs.Areas.{area_key_place, area_key_on, no_link, new_paths,
 use Rattle.plans.specs.declared.Head.{Head}
 use Rattle.plans.specs.declared.Head.TheVariants.{Nothing, Variable}
 use Rattle.plans.specs.declared.Plan.{Plan}
-use Rattle.plans.specs.declared.Planned.{Planned}
 use Rattle.plans.specs.PlanOk.{PlanOk, AllFit, WordsOk}
 use Rattle.plans.specs.Stores.{words_of, word_stores, plan_stores}
 use Rattle.scan.specs.Scan.{is_full}
@@ -138,18 +138,19 @@ module _ (b : List ℕ) (t : Schema) (e : Entry) (area : List ℕ) (spot : Spot)
   place_is l = ap (λ (z : Link). new_place b e z.prior) (link-is on l)
 
   -- the whole answer
-  pub add-answer : (at : List ℕ) (a : Planned) → ((k : ℕ) → k < e.count → get_or at k 0 ≡ area_key_place e k) → on < e.count → other_masters b (masters_on t e) on Mrnf (area_key_on e area) e.count ≡ Done
-      → a.status ≡ cond (is_full b e) Full (cond (damaged b e area at owners (new_links b e owners spot on)) Damg Done)
-      → (a.status ≡ Done → Built e owners (new_links b e owners spot on) (both_on e (place_at b e owners spot on)) Variable (place_at b e owners spot on) 0 a.plan)
-      → (a.status ≡ add_status b t e area spot on)
-      × (a.status ≡ Done → (plan_stores b e area a.plan ≡ add_stores b t e area spot on (add_place b t e area spot on)) × PlanOk (length b) e a.plan × (a.plan.target.0 ≡ add_place b t e area spot on) × (a.plan.head ≡ Variable))
-  add-answer at a places named done is made = (
-    is ∙ (rw (add_damage_lem at places) (sym (add-passed b t e area spot on done))),
-    λ z.
-        let w = rw (place_is named) at (made z) in
-        let d = rest-done (is_full b e) (damaged b e area at owners (new_links b e owners spot on)) (sym is ∙ z) in
-        (add-stores _ a.plan w, add_ok _ a.plan w (new_place_in b e _ d.0) at d.1, w.target, w.head),
-  )
+  pub add-answer : (at : List ℕ) → ((k : ℕ) → k < e.count → get_or at k 0 ≡ area_key_place e k) → other_masters b (masters_on t e) on Mrnf (area_key_on e area) e.count ≡ Done
+      → {s : Status} → s ≡ cond (is_full b e) Full (cond (damaged b e area at owners (new_links b e owners spot on)) Damg Done) → s ≡ add_status b t e area spot on
+  add-answer at places done is = is ∙ (rw (add_damage_lem at places) (sym (add-passed b t e area spot on done)))
+
+  pub add-plan : (at : List ℕ) (a : Result Plan Refusal) → on < e.count
+      → status_of a ≡ cond (is_full b e) Full (cond (damaged b e area at owners (new_links b e owners spot on)) Damg Done)
+      → IfOk a (Built e owners (new_links b e owners spot on) (both_on e (place_at b e owners spot on)) Variable (place_at b e owners spot on) 0)
+      → IfOk a (λ p. (plan_stores b e area p ≡ add_stores b t e area spot on (add_place b t e area spot on)) × PlanOk (length b) e p × (p.target.0 ≡ add_place b t e area spot on) × (p.head ≡ Variable))
+  add-plan at (Err why) named is made = tt
+  add-plan at (Ok p) named is made =
+      let w = rw (place_is named) at made in
+      let d = rest-done (is_full b e) (damaged b e area at owners (new_links b e owners spot on)) (sym is) in
+      (add-stores _ p w, add_ok _ p w (new_place_in b e _ d.0) at d.1, w.target, w.head)
 
 -- ---- DELVD of the record r
 
@@ -178,15 +179,14 @@ module _ (b : List ℕ) (t : Schema) (e : Entry) (r : ℕ) (owners : List Part) 
         wiped = rw made.wiped in_set.1;
       }
 
-  pub del_answer : (at : List ℕ) (on : ℕ) (a : Planned) → ((k : ℕ) → k < e.count → get_or at k 0 ≡ (path_of e k).at) → InSet e r
-      → other_masters b (masters_on t e) on Damg (own_key b t e r) e.count ≡ Done → a.status ≡ cond (damaged b e (record_of b e r) at owners (own_links b e r)) Damg Done
-      → (a.status ≡ Done → Built e owners (own_links b e r) (own_links b e r) Nothing r r a.plan)
-      → (a.status ≡ del_status b t e r on)
-      × (a.status ≡ Done → ((area : List ℕ) → plan_stores b e area a.plan ≡ del_stores b t e r) × PlanOk (length b) e a.plan × (a.plan.head ≡ Nothing))
-  del_answer at on a places in_set done is made = (
-    is ∙ (rw (del_damage_lem at places) (sym (del_passed b t e r on done))),
-    λ z.
-        let w = made z in
-        let d = rest-done false (damaged b e (record_of b e r) at owners (own_links b e r)) (sym is ∙ z) in
-        (del_stores_lem a.plan w in_set, del_ok a.plan w in_set at d.1, w.head),
-  )
+  pub del_answer : (at : List ℕ) (on : ℕ) → ((k : ℕ) → k < e.count → get_or at k 0 ≡ (path_of e k).at) → other_masters b (masters_on t e) on Damg (own_key b t e r) e.count ≡ Done
+      → {s : Status} → s ≡ cond (damaged b e (record_of b e r) at owners (own_links b e r)) Damg Done → s ≡ del_status b t e r on
+  del_answer at on places done is = is ∙ (rw (del_damage_lem at places) (sym (del_passed b t e r on done)))
+
+  pub del_plan : (at : List ℕ) (a : Result Plan Refusal) → InSet e r → status_of a ≡ cond (damaged b e (record_of b e r) at owners (own_links b e r)) Damg Done
+      → IfOk a (Built e owners (own_links b e r) (own_links b e r) Nothing r r)
+      → IfOk a (λ p. ((area : List ℕ) → plan_stores b e area p ≡ del_stores b t e r) × PlanOk (length b) e p × (p.head ≡ Nothing))
+  del_plan at (Err why) in_set is made = tt
+  del_plan at (Ok p) in_set is made =
+      let d = rest-done false (damaged b e (record_of b e r) at owners (own_links b e r)) (sym is) in
+      (del_stores_lem p made in_set, del_ok p made in_set at d.1, made.head)

@@ -3,7 +3,7 @@
 use Prim.Native.Nat.{ℕ, ◌+◌, ◌≤◌, ◌<◌}
 use Rattle.std.specs.Prelude.{◌≡◌, refl, true, false, ◌&&◌, ◌||◌, List, take}
 use Rattle.std.proofs.Math.Path.{sym, ap}
-use Rattle.std.proofs.Common.{⊎_elim, arith, eq-eqb, ne_eqb, le-leb, get_or-take}
+use Rattle.std.proofs.Common.{⊎_elim, ◌∙◌, arith, eq-eqb, ne_eqb, le-leb, get_or-take}
 use Rattle.std.proofs.Math.Bool.{Bool, not}
 use Rattle.std.proofs.lemmas.Bool.{lt-leb, not-false}
 use Rattle.std.proofs.Math.ListN.{get_or}
@@ -76,6 +76,10 @@ module _ (b : List ℕ) (e : Entry) (src at : List ℕ) (owners : List Part) (li
       ap not
       (all_below-same (clean_at b e src at owners links) (clean_at b e src at owners (take e.count links)) e.count
       (λ k l. rw (get_or-take e.count links k no_link l)))
+
+  -- what was asked of the neighbours as they were kept, of those that are meant
+  pub damaged-kept : {bad : Bool} {ls : List Link} → bad ≡ damaged b e src at owners links → take e.count links ≡ ls → damaged b e src at owners ls ≡ bad
+  damaged-kept h q = sym (h ∙ damaged-taken ∙ ap (damaged b e src at owners) q)
 
   -- where no path is damaged, every neighbour is none, or a record of the set
   no_damage : (s t u : Bool) → not (s || t || u) ≡ true → (t ≡ false) × (u ≡ false)

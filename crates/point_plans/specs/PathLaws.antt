@@ -1,7 +1,7 @@
 -- The masters of a point's keys and its neighbours, path by path: the turns and ends of the loop that looks for the masters, and what it
 -- leaves where it refuses none.
 use Prim.Native.Nat.{ℕ, zero, suc, ◌+◌, ◌≤◌, ◌<◌}
-use Rattle.std.specs.Prelude.{◌≡◌, Bool, List, get_or, take}
+use Rattle.std.specs.Prelude.{◌≡◌, Bool, List, get_or, take, Result, Ok, Err}
 use Rattle.std.proofs.Math.Path.{refl}
 use Rattle.std.proofs.Common.{sym, ap, ◌∙◌, eq-or-lt_of_le, add-one, get_or-take}
 use Rattle.std.proofs.Math.Logic.{⊎_elim}
@@ -13,12 +13,14 @@ use Rattle.octets.specs.Below.{upto}
 use Rattle.octets.specs.BelowLaws.{get_d_upto}
 use Rattle.octets.specs.TestLaws.{never_both}
 use Rattle.terms.specs.declared.RecordNo.{RecordNo}
+use Rattle.terms.specs.declared.Refusal.{Refusal}
 use Rattle.terms.specs.declared.Status.{Status}
 use Rattle.terms.specs.declared.Status.TheVariants.{Done}
-use Rattle.terms.specs.Status.{status_number, is_done, first_of}
+use Rattle.terms.specs.Status.{status_number, is_done, first_of, status_by, status_of}
 use Rattle.terms.specs.Laws.{status-number-one}
 use Rattle.schema.specs.declared.Path.{Path}
 use Rattle.schema.specs.declared.Entry.{Entry}
+use Rattle.schema.specs.declared.Part.{Part}
 use Rattle.records.specs.declared.Link.{Link}
 use Rattle.records.specs.Records.{prior_on, next_on}
 use Rattle.masters.specs.declared.Found.{Found}
@@ -28,11 +30,39 @@ use Rattle.points.specs.declared.Spot.{Spot}
 use Rattle.points.specs.declared.Spot.TheVariants.{Last}
 use Rattle.points.specs.Points.{spot_on, neighbours_at}
 use Rattle.point_plans.specs.Rest.{master_status, other_master, other_masters}
+use Rattle.point_plans.specs.Paths.{no_part, found_part, owner_of}
 
 -- ---- one path's master
 
 pub named_here : {m : RecordNo} {k on : ℕ} (b : List ℕ) (x : ℕ → Entry) (key : ℕ → List ℕ) → k ≡ on → find b (x on) (key on) ≡ At m → find b (x k) (key k) ≡ At m
 named_here b x key q h = rw q h
+
+-- what the search answers, as a status, and where it found the master
+owner-status : (absent : Refusal) (x : Entry) (f : Found) → status_of (owner_of absent x f) ≡ master_status (status_by absent) f
+owner-status absent x (At m) = refl
+owner-status absent x Missing = refl
+owner-status absent x Damaged = refl
+
+part_in : Result Part Refusal → Part
+part_in (Ok o) = o
+part_in (Err _) = no_part
+
+owner-part : (absent : Refusal) (x : Entry) (f : Found) → part_in (owner_of absent x f) ≡ found_part x f
+unfolding part_in
+owner-part absent x (At m) = refl
+owner-part absent x Missing = refl
+owner-part absent x Damaged = refl
+
+module _ (absent : Refusal) (x : Entry) (f : Found) where
+  pub owner_refused : {why : Refusal} → owner_of absent x f ≡ Err why → status_by why ≡ master_status (status_by absent) f
+  owner_refused h = sym (ap status_of h) ∙ owner-status absent x f
+
+  pub owner_found : {o : Part} → owner_of absent x f ≡ Ok o → Done ≡ master_status (status_by absent) f
+  owner_found h = sym (ap status_of h) ∙ owner-status absent x f
+
+  pub owner_part : {o : Part} → owner_of absent x f ≡ Ok o → o ≡ found_part x f
+  unfolding part_in
+  owner_part h = sym (ap part_in h) ∙ owner-part absent x f
 
 -- ---- one path's neighbours
 

@@ -1,11 +1,12 @@
 -- What the code keeps of a call, path by path, in arrays: where each path's key stands in a buffer (`at`), where each path's master lies in
 -- the data base (`owners`), the record's neighbours (`links`). These are the definitions of Points, said of the arrays; SideLaws says that
 -- they are the same where the arrays hold what they should.
-use Rattle.std.specs.Prelude.{ℕ, ◌+◌, Bool, cond, not, ◌||◌, List, [], ◌∷◌, eqb, get_or}
+use Rattle.std.specs.Prelude.{ℕ, ◌+◌, Bool, cond, not, ◌||◌, List, [], ◌∷◌, eqb, get_or, Result, Ok, Err}
 use Rattle.std.specs.Bool.{xor}
 use Rattle.octets.specs.Octets.{run, word_at}
 use Rattle.octets.specs.Below.{all_below, upto, concat_below}
-use Rattle.terms.specs.declared.Status.{Status}
+use Rattle.terms.specs.declared.Refusal.{Refusal}
+use Rattle.terms.specs.declared.Refusal.TheVariants.{Damg}
 use Rattle.schema.specs.declared.Path.{Path}
 use Rattle.schema.specs.declared.Entry.{Entry}
 use Rattle.schema.specs.declared.Part.{Part}
@@ -22,8 +23,6 @@ use Rattle.masters.specs.Find.{find}
 use Rattle.points.specs.declared.Spot.{Spot}
 use Rattle.points.specs.Chains.{bad_neighbour}
 use Rattle.points.specs.Points.{spot_on, neighbours_at, new_place}
-use Rattle.point_plans.specs.declared.Owner.{Owner}
-use Rattle.point_plans.specs.Rest.{master_status}
 
 -- ---- the masters
 
@@ -37,8 +36,11 @@ found_part x (At m) = part_of x m.0
 found_part x Missing = no_part
 found_part x Damaged = no_part
 
-abbrev pub owner_of : Status → Entry → Found → Owner
-owner_of absent x f = record { status = master_status absent f; part = found_part x f }
+-- the same as a Result: "16, then 12"
+abbrev pub owner_of : Refusal → Entry → Found → Result Part Refusal
+owner_of absent x (At m) = Ok (part_of x m.0)
+owner_of absent x Missing = Err absent
+owner_of absent x Damaged = Err Damg
 
 -- where path k's master lies; `x` are the masters of each path
 abbrev pub owner_on : List ℕ → (ℕ → Entry) → (ℕ → List ℕ) → ℕ → Part

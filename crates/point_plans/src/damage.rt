@@ -103,16 +103,10 @@ pub fn any_damaged(
     requires owners_in { OwnersIn e owners (length base.now) }
     ensures { result ≡ damaged base.now e src.now at owners links }
 {
-    let count = e.count as usize;
-    let mut k: usize = 0;
-    while k < count {
-        let from = at[k];
-        let owner = owners[k];
-        let link = links[k];
-        if damaged_on(base, e, src, from, owner, link, k) {
+    for k in 0..e.count as usize {
+        if damaged_on(base, e, src, at[k], owners[k], links[k], k) {
             return true;
         }
-        k += 1;
     }
     false
 }

@@ -36,13 +36,9 @@ pub fn own_links(base: &[u8], e: Entry, r: RecordNo) -> [Link; 4]
     ensures result_value { take e.count result ≡ own_links base.now e r.0 }
     ensures result_value_2 { drop e.count result ≡ drop e.count (replicate 4 no_link) }
 {
-    let count = e.count as usize;
     let mut links = [Link { prior: 0, next: 0 }; 4];
-    let mut k: usize = 0;
-    while k < count {
-        let p = path_of(e, k);
-        links[k] = own_link(base, e, r, p);
-        k += 1;
+    for k in 0..e.count as usize {
+        links[k] = own_link(base, e, r, path_of(e, k));
     }
     links
 }
@@ -92,13 +88,9 @@ pub fn new_links(base: &[u8], e: Entry, owners: [Part; 4], spot: Spot, on: usize
     ensures result_value { take e.count result ≡ new_links base.now e owners spot on }
     ensures result_value_2 { drop e.count result ≡ drop e.count (replicate 4 no_link) }
 {
-    let count = e.count as usize;
     let mut links = [Link { prior: 0, next: 0 }; 4];
-    let mut k: usize = 0;
-    while k < count {
-        let owner = owners[k];
-        links[k] = new_link(base, e, owner, spot, on, k);
-        k += 1;
+    for k in 0..e.count as usize {
+        links[k] = new_link(base, e, owners[k], spot, on, k);
     }
     links
 }

@@ -1,9 +1,9 @@
 // The masters of a point's keys, path by path. A key is a run of a buffer: the area in an add, the record's part in DELVD. Each master is
 // looked for once, and what is kept of it is where its record lies.
-ghost use Rattle.std.specs.Prelude.{◌≡◌, ◌≤◌, length, take, drop, replicate};
+ghost use Rattle.std.specs.Prelude.{◌≡◌, ◌≤◌, length, take, drop, replicate, IfOk};
 ghost use Rattle.octets.specs.Octets.{zeros};
 ghost use Rattle.octets.specs.Below.{upto};
-ghost use Rattle.terms.specs.declared.Status.TheVariants.{Done};
+ghost use Rattle.terms.specs.Status.{status_by, status_of};
 ghost use Rattle.terms.specs.Terms.{key_of};
 ghost use Rattle.schema.specs.Decode.{path_of};
 ghost use Rattle.records.specs.Areas.{area_key_place};
@@ -14,12 +14,12 @@ ghost use Rattle.point_plans.specs.Paths.{no_part, owner_of, owner_on, key_at};
 ghost use Rattle.point_plans.specs.Within.{KeysIn};
 ghost use Rattle.records.specs.InBase.{masters_kept, MastersIn, PathsIn};
 
-use super::{NamedPath, Owner, Owners};
+use super::NamedPath;
 use masters::Found;
 use masters::walk::find;
 use schema::layout::{part_of, path_of};
 use schema::{Entry, Part, Path};
-use terms::{Key, Status};
+use terms::{Key, Refusal};
 
 // Where the paths' keys stand in an area of the set.
 pub fn area_places(e: Entry) -> [usize; 4]
@@ -27,15 +27,11 @@ pub fn area_places(e: Entry) -> [usize; 4]
     ensures result_value { take e.count result ≡ upto (area_key_place e) e.count }
     ensures result_value_2 { drop e.count result ≡ drop e.count (zeros 4) }
 {
-    let count = e.count as usize;
     let mut at = [0usize; 4];
     let mut from: usize = 0;
-    let mut k: usize = 0;
-    while k < count {
-        let p = path_of(e, k);
+    for k in 0..e.count as usize {
         at[k] = from;
-        from += p.len as usize;
-        k += 1;
+        from += path_of(e, k).len as usize;
     }
     at
 }
@@ -46,48 +42,23 @@ pub fn record_places(e: Entry) -> [usize; 4]
     ensures result_value { take e.count result ≡ upto (λ k. (path_of e k).at) e.count }
     ensures result_value_2 { drop e.count result ≡ drop e.count (zeros 4) }
 {
-    let count = e.count as usize;
     let mut at = [0usize; 4];
-    let mut k: usize = 0;
-    while k < count {
-        let p = path_of(e, k);
-        at[k] = p.at as usize;
-        k += 1;
+    for k in 0..e.count as usize {
+        at[k] = path_of(e, k).at as usize;
     }
     at
 }
 
-// No part: what stands for a master that was not found.
-fn no_part() -> Part
-    ensures { result ≡ no_part }
-{
-    Part { at: 0, size: 0 }
-}
-
-// The master of a key among the masters x of path p.
-fn owner_among(base: &[u8], x: Entry, p: Path, key: Key, absent: Status) -> Owner
+// The master of a key among the masters x of path p: where its record lies.
+fn owner_among(base: &[u8], x: Entry, p: Path, key: Key, absent: Refusal) -> Result<Part, Refusal>
     requires masters_in { MastersIn x p (length base.now) }
     requires len_value { key.len ≡ p.len }
     ensures { result ≡ owner_of absent x (find base.now x (key_of key)) }
 {
-    let s = find(base, x, key);
-    let found = s.found;
-    match found {
-        Found::At(m) => {
-            let part = part_of(x, m);
-            Owner {
-                status: Status::Done,
-                part,
-            }
-        }
-        Found::Missing => Owner {
-            status: absent,
-            part: no_part(),
-        },
-        Found::Damaged => Owner {
-            status: Status::Damg,
-            part: no_part(),
-        },
+    match find(base, x, key).found {
+        Found::At(m) => Ok(part_of(x, m)),
+        Found::Missing => Err(absent),
+        Found::Damaged => Err(Refusal::Damg),
     }
 }
 
@@ -99,19 +70,15 @@ fn owner_on(
     key: Key,
     k: usize,
     named: NamedPath,
-    absent: Status,
-) -> Owner
+    absent: Refusal,
+) -> Result<Part, Refusal>
     requires masters_in { MastersIn x p (length base.now) }
     requires len_value { key.len ≡ p.len }
     requires key_value { k ≡ named.on → find base.now x (key_of key) ≡ At named.master }
     ensures { result ≡ owner_of absent x (find base.now x (key_of key)) }
 {
     if k == named.on {
-        let part = part_of(x, named.master);
-        return Owner {
-            status: Status::Done,
-            part,
-        };
+        return Ok(part_of(x, named.master));
     }
     owner_among(base, x, p, key, absent)
 }
@@ -124,39 +91,20 @@ pub fn all_owners(
     src: &[u8],
     at: [usize; 4],
     named: NamedPath,
-    absent: Status,
-) -> Owners
+    absent: Refusal,
+) -> Result<[Part; 4], Refusal>
     requires paths_in { PathsIn e masters (length base.now) }
     requires keys_in { KeysIn e at (length src.now) }
     requires on_value { find base.now (masters_kept masters named.on) (key_at src.now e at named.on) ≡ At named.master }
-    ensures status_value { result.status ≡ other_masters base.now (masters_kept masters) named.on absent (key_at src.now e at) e.count }
-    ensures parts_value { result.status ≡ Done → take e.count result.parts ≡ upto (owner_on base.now (masters_kept masters) (key_at src.now e at)) e.count }
-    ensures parts_value_2 { (result.status ≡ Done → ⊥) → result.parts ≡ replicate 4 no_part }
-    ensures parts_value_3 { drop e.count result.parts ≡ drop e.count (replicate 4 no_part) }
+    ensures status { status_of result ≡ other_masters base.now (masters_kept masters) named.on (status_by absent) (key_at src.now e at) e.count }
+    ensures found { IfOk result (λ parts. take e.count parts ≡ upto (owner_on base.now (masters_kept masters) (key_at src.now e at)) e.count) }
+    ensures rest { IfOk result (λ parts. drop e.count parts ≡ drop e.count (replicate 4 no_part)) }
 {
-    let paths = e.count as usize;
-    let none = [no_part(); 4];
-    let mut parts = none;
-    let mut k: usize = 0;
-    while k < paths {
-        let from = at[k];
+    let mut parts = [Part { at: 0, size: 0 }; 4];
+    for k in 0..e.count as usize {
         let p = path_of(e, k);
-        let key = Key::part(src, from, p.len as usize);
-        let x = masters[k];
-        let o = owner_on(base, x, p, key, k, named, absent);
-        let status = o.status;
-        if status.number() != 0 {
-            return Owners {
-                status,
-                parts: none,
-            };
-        }
-        let part = o.part;
-        parts[k] = part;
-        k += 1;
+        let key = Key::part(src, at[k], p.len as usize);
+        parts[k] = owner_on(base, masters[k], p, key, k, named, absent)?;
     }
-    Owners {
-        status: Status::Done,
-        parts,
-    }
+    Ok(parts)
 }

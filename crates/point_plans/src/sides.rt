@@ -67,16 +67,9 @@ pub fn with_sides(
     requires links_in { LinksIn e links }
     ensures { Longer plan result (2 * e.count) (words_below e owners links values e.count) }
 {
-    let count = e.count as usize;
     let mut made = plan;
-    let mut k: usize = 0;
-    while k < count {
-        let p = path_of(e, k);
-        let owner = owners[k];
-        let link = links[k];
-        let value = values[k];
-        made = with_path(made, e, p, owner, link, value);
-        k += 1;
+    for k in 0..e.count as usize {
+        made = with_path(made, e, path_of(e, k), owners[k], links[k], values[k]);
     }
     made
 }

@@ -1,57 +1,69 @@
 -- `point_plans::add_known` meets its contract: full, damaged, or a plan.
 use mathlib.Core.Path.{◌≡◌, refl, sym, ap, ◌∙◌}
-use mathlib.Core.Bool.{false}
-use native.Mathlib.Omega.{arith}
+use mathlib.Core.List.{List}
+use Prim.Native.Nat.{ℕ}
 use borrow.Author.Tests.{lt-ltb, le-ltb}
-use lib.Dec.{ltb}
+use mathlib.Core.Bool.{true, false}
+use Rattle.std.specs.Prelude.{Some, None}
+use Rattle.std.proofs.lemmas.Result.{err_from_is_err_and}
+use native.Mathlib.Omega.{arith}
+use Rattle.terms.specs.declared.RecordNo.{RecordNo}
+use Rattle.terms.specs.declared.Refusal.TheVariants as refusal
+use Rattle.schema.specs.Numbers.{record_up_to, some_record, no_record_up_to}
+use Rattle.schema.specs.declared.Entry.{Entry}
 use Rattle.records.specs.declared.Link.{Link}
 use Rattle.records.specs.Areas.{no_link}
 use Rattle.scan.specs.Scan.{is_full}
 use Rattle.points.specs.Points.{new_place}
 use Rattle.points.specs.PlaceLaws.{new_place-full}
-use Rattle.point_plans.specs.Paths.{damaged, link_at, new_links, place_at}
+use Rattle.point_plans.specs.Paths.{link_at}
 use Rattle.point_plans.specs.PathLaws.{filled_at}
 use Rattle.point_plans.specs.WithinLaws.{owners_most}
 use Rattle.records.proofs.InBaseLaws.{points_most}
-use Rattle.point_plans.specs.DamageLaws.{damaged-taken, links_in}
-use Rattle.plans.proofs.MadeLaws.{refused-status, refused_none, none-refused}
-use Rattle.terms.specs.Laws.{refused-done}
+use Rattle.point_plans.specs.DamageLaws.{damaged-kept, links_in}
 use Rattle.point_plans.specs.PlanLaws.{linked-same}
 use Rattle.point_plans.proofs.add_known.Goals as goal
 
-pub returns-then-e-place : goal.returns-then-e-place
-returns-then-e-place c =
-    let f = refused-status c.refused.ensures in
-    record { status_value = rw ((let by_full : is_full c.args.base.now c.args.e ≡ ltb c.args.e.records c.new_place-place.result = let a = c.args in sym (ap (ltb a.e.records) c.new_place-place.ensures ∙ new_place-full a.base.now a.e _) in by_full) ∙ lt-ltb _ _ c.if-e-place.true) f; built = refused-done f (omega arith); none_refused = refused_none c.refused.ensures }
+-- there is no place in a full set, and one in a set that is not
+module _ (b : List ℕ) (e : Entry) (p : ℕ) where
+  no_place : None ≡ record_up_to e.records (new_place b e p) → is_full b e ≡ true
+  no_place h = sym (new_place-full b e p) ∙ lt-ltb _ _ (no_record_up_to e.records (new_place b e p) h)
 
-pub returns-then-any_damaged : goal.returns-then-any_damaged
-returns-then-any_damaged c =
-    let f = refused-status c.refused-then-any_damaged.ensures in
-    record {
-      status_value = rw (
-        (let by_free2 : is_full c.args.base.now c.args.e ≡ false = (let by_full13 : is_full c.args.base.now c.args.e ≡ ltb c.args.e.records c.new_place-place.result = let a = c.args in sym (ap (ltb a.e.records) c.new_place-place.ensures ∙ new_place-full a.base.now a.e _) in by_full13) ∙ le-ltb _ _ c.if-e-place.false in by_free2),
-        (let by_asked : (let a = c.args in damaged a.base.now a.e a.area.now a.at a.owners (new_links a.base.now a.e a.owners a.spot a.on)) ≡ c.any_damaged.result = let a = c.args in
-            sym (c.any_damaged.ensures ∙ damaged-taken a.base.now a.e a.area.now a.at a.owners _ ∙ ap (damaged a.base.now a.e a.area.now a.at a.owners) c.new_links-links.ensures.result_value) in by_asked) ∙ c.if-any_damaged.true,
-      ) f;
-      built = refused-done f (omega arith);
-      none_refused = refused_none c.refused-then-any_damaged.ensures;
-    }
+  some_place : {r : RecordNo} → Some r ≡ record_up_to e.records (new_place b e p) → (r.0 ≡ new_place b e p) × (is_full b e ≡ false)
+  some_place h =
+      let w = some_record e.records (new_place b e p) h in
+      (w.0, sym (new_place-full b e p) ∙ le-ltb _ _ (omega (arith, w)))
 
-pub linked_plan-plan-requires : goal.linked_plan-plan-requires
-linked_plan-plan-requires c =
+pub returns-in_err-place-clause-status : goal.returns-in_err-place-clause-status
+returns-in_err-place-clause-status c =
+    let p = err_from_is_err_and c.from_residual.result c.from_residual.ensures.1 in
+    let none : None ≡ c.new_place.result = grind arith in
+    let why : c.in_err-place.field-0.0 ≡ refusal.Full = grind arith in
+    rw (p.1, p.2, why, no_place c.args.base.now c.args.e _ (none ∙ c.new_place.ensures)) refl
+
+pub returns-then-any_damaged-clause-status : goal.returns-then-any_damaged-clause-status
+returns-then-any_damaged-clause-status c =
+    let a = c.args in
+    let some : Some c.in_ok-place.place ≡ c.new_place.result = grind arith in
+    rw (
+      (some_place a.base.now a.e _ (some ∙ c.new_place.ensures)).1,
+      damaged-kept a.base.now a.e a.area.now a.at a.owners _ c.any_damaged.ensures c.new_links-links.ensures.result_value ∙ c.if-any_damaged.true,
+    ) refl
+
+pub linked_plan-requires : goal.linked_plan-requires
+linked_plan-requires c =
     let a = c.args in
     record { points_in = points_most c.requires.points_in; owners_in = owners_most a.owners c.requires.points_in.lies c.requires.owners_in; links_in = links_in a.base.now a.e a.area.now a.at a.owners _ (sym c.any_damaged.ensures ∙ c.if-any_damaged.false) }
 
 pub returns : goal.returns
 returns c =
+    let a = c.args in
+    let kept = c.new_links-links.ensures.result_value in
+    let some : Some c.in_ok-place.place ≡ c.new_place.result = grind arith in
+    let place = some_place a.base.now a.e _ (some ∙ c.new_place.ensures) in
     record {
-      status_value = rw (
-        (let by_free7 : is_full c.args.base.now c.args.e ≡ false = (let by_full20 : is_full c.args.base.now c.args.e ≡ ltb c.args.e.records c.new_place-place.result = let a = c.args in sym (ap (ltb a.e.records) c.new_place-place.ensures ∙ new_place-full a.base.now a.e _) in by_full20) ∙ le-ltb _ _ c.if-e-place.false in by_free7),
-        (let by_asked6 : (let a = c.args in damaged a.base.now a.e a.area.now a.at a.owners (new_links a.base.now a.e a.owners a.spot a.on)) ≡ c.any_damaged.result = let a = c.args in
-            sym (c.any_damaged.ensures ∙ damaged-taken a.base.now a.e a.area.now a.at a.owners _ ∙ ap (damaged a.base.now a.e a.area.now a.at a.owners) c.new_links-links.ensures.result_value) in by_asked6) ∙ c.if-any_damaged.false,
-      ) refl;
-      built = λ z. linked-same c.args.e c.args.owners c.new_links-links.ensures.result_value ((let by_place5 : (let a = c.args in c.new_place-place.result ≡ place_at a.base.now a.e a.owners a.spot a.on) = let a = c.args in
-          c.new_place-place.ensures
-          ∙ ap (λ (l : Link). new_place a.base.now a.e l.prior) (filled_at (link_at a.base.now a.e a.owners a.spot a.on) _ a.e.count no_link c.new_links-links.ensures.result_value a.on c.requires.on_lt_count) in by_place5)) c.linked_plan-plan.ensures;
-      none_refused = none-refused refl;
+      status = rw (place.1, damaged-kept a.base.now a.e a.area.now a.at a.owners _ c.any_damaged.ensures kept ∙ c.if-any_damaged.false) refl;
+      built = linked-same a.e a.owners kept
+          (place.0 ∙ ap (λ (l : Link). new_place a.base.now a.e l.prior) (filled_at (link_at a.base.now a.e a.owners a.spot a.on) _ a.e.count no_link kept a.on c.requires.on_lt_count))
+          c.linked_plan.ensures;
     }

@@ -4,14 +4,13 @@ use mathlib.Core.Path.{◌≡◌, refl, sym, ap, ◌∙◌}
 use mathlib.Core.Bool.{cond}
 use mathlib.Core.List.{List}
 use lib.ListN.{length, get_or, take}
-use Rattle.plans.proofs.MadeLaws.{refused-status, refused_none}
-use borrow.Author.Tests.{ne_eqb}
+use Rattle.std.proofs.lemmas.Result.{err_from_is_err_and, IfOk-from_err}
 use Rattle.octets.specs.Below.{upto}
-use Rattle.terms.specs.Laws.{status-number-one}
+use Rattle.terms.specs.Laws.{refusal-not-done}
 use Rattle.terms.specs.declared.RecordNo.{RecordNo}
 use Rattle.terms.specs.declared.Status.{Status}
 use Rattle.terms.specs.declared.Status.TheVariants.{Done, Damg}
-use Rattle.terms.specs.Status.{status_number}
+use Rattle.terms.specs.Status.{status_by, status_of}
 use Rattle.schema.specs.declared.Entry.{Entry}
 use Rattle.schema.specs.declared.Part.{Part}
 use Rattle.schema.specs.declared.Schema.{Schema}
@@ -28,7 +27,7 @@ use Rattle.point_plans.specs.WithinLaws.{record_keys_in, record_key}
 use Rattle.point_plans.specs.Within.{KeysIn}
 use Rattle.point_plans.specs.PathLaws.{others_same, filled_at}
 use Rattle.point_plans.specs.SideLaws.{Known, known_of, known-by-schema, owners_in}
-use Rattle.point_plans.specs.CallLaws.{del_refused, del_answer}
+use Rattle.point_plans.specs.CallLaws.{del_refused, del_answer, del_plan}
 use Rattle.point_plans.proofs.delete.Goals as goal
 
 -- where the keys stand, and that they are the record's
@@ -67,18 +66,18 @@ others_under b e masters r part at on s same is t of =
     ∙ others_same b (masters_kept masters) (masters_on t e) on Damg (own b e r) (own b e r) e.count of.same (λ k l. refl)
 
 -- what it leaves where it refuses none
-known : (b : List ℕ) (e : Entry) (masters : List Entry) (r : ℕ) (part at : List ℕ) (on : ℕ) (m : RecordNo) (s : Status) (owners : List Part)
+known : (b : List ℕ) (e : Entry) (masters : List Entry) (r : ℕ) (part at : List ℕ) (on : ℕ) (m : RecordNo) (owners : List Part)
     → ((k : ℕ) → k < e.count → key_at part e at k ≡ own b e r k)
-    → s ≡ other_masters b (masters_kept masters) on Damg (key_at part e at) e.count
+    → Done ≡ other_masters b (masters_kept masters) on Damg (key_at part e at) e.count
     → PathsIn e masters (length b) → find b (masters_kept masters on) (own b e r on) ≡ At m
-    → (s ≡ Done → take e.count owners ≡ upto (owner_on b (masters_kept masters) (key_at part e at)) e.count) → s ≡ Done
+    → take e.count owners ≡ upto (owner_on b (masters_kept masters) (key_at part e at)) e.count
     → Known b (masters_kept masters) e (own b e r) owners
-known b e masters r part at on m s owners same is paths named found done =
+known b e masters r part at on m owners same is paths named found =
     known_of b e masters on Damg (key_at part e at) (own b e r) owners m paths same refl
-    (sym (others b e masters r part at on s same is) ∙ done) named (found done)
+    (sym (others b e masters r part at on Done same is)) named found
 
-pub all_owners-found-requires : goal.all_owners-found-requires
-all_owners-found-requires c =
+pub all_owners-requires : goal.all_owners-requires
+all_owners-requires c =
     let a = c.args in
     let part = c.record_of-part.result.now in
     let at = c.record_places-at.result in
@@ -89,22 +88,21 @@ all_owners-found-requires c =
       on_value = ap (find a.base.now (masters_kept a.masters a.named.on)) (keys a.base.now a.e a.r.0 part at c.record_of-part.ensures points kept a.named.on c.requires.on_lt_count) ∙ c.requires.on_value;
     }
 
-pub returns-then-number-ne0 : goal.returns-then-number-ne0
-returns-then-number-ne0 c =
+pub returns-in_err-owners-clause-status : goal.returns-in_err-owners-clause-status
+returns-in_err-owners-clause-status c =
     let a = c.args in
     let part = c.record_of-part.result.now in
     let at = c.record_places-at.result in
     let same = keys a.base.now a.e a.r.0 part at c.record_of-part.ensures c.requires.paths_in.points c.record_places-at.ensures.result_value in
-    let s = c.all_owners-found.result.status in
-    let some : status_number s ≡ 0 → ⊥ = λ z. c.if-number-ne0.true (c.number.ensures ∙ z) in record {
-      status_value = λ t of. (
-        refused-status c.refused.ensures
-            ∙ del_refused a.base.now t a.e a.r.0 a.named.on (others_under a.base.now a.e a.masters a.r.0 part at a.named.on s same c.all_owners-found.ensures.status_value t of)
-            (ne_eqb (status_number s) 0 some),
-        λ z. absurd (some (ap status_number (sym (refused-status c.refused.ensures) ∙ z))),
-      );
-      none_refused = refused_none c.refused.ensures;
-    }
+    let why = c.in_err-owners.field-0.0 in
+    let p = err_from_is_err_and c.from_residual.result c.from_residual.ensures.1 in
+    λ t of.
+    rw (p.1, p.2)
+    (del_refused a.base.now t a.e a.r.0 a.named.on (others_under a.base.now a.e a.masters a.r.0 part at a.named.on (status_by why) same c.in_err-owners.ensures.status t of) (refusal-not-done why))
+
+pub returns-in_err-owners-clause-plan : goal.returns-in_err-owners-clause-plan
+returns-in_err-owners-clause-plan c =
+    λ t of. IfOk-from_err c.from_residual.result _ c.from_residual.ensures.0
 
 pub delete_known-requires : goal.delete_known-requires
 delete_known-requires c =
@@ -114,12 +112,12 @@ delete_known-requires c =
     let kept = c.record_places-at.ensures.result_value in
     let points = c.requires.paths_in.points in
     let same = keys a.base.now a.e a.r.0 part at c.record_of-part.ensures points kept in
-    let o = c.all_owners-found in
-    let done : o.result.status ≡ Done = status-number-one _ Done (sym c.number.ensures ∙ c.if-number-ne0.false) in record {
+    let o = c.in_ok-owners.ensures in
+    let owners = c.in_ok-owners.owners in record {
       points_in = points;
       keys_in = inside a.base.now a.e a.r.0 part at c.record_of-part.ensures points c.requires.in_set kept;
-      owners_in = owners_in a.base.now (masters_kept a.masters) a.e (own a.base.now a.e a.r.0) o.result.parts
-          (known a.base.now a.e a.masters a.r.0 part at a.named.on a.named.master o.result.status o.result.parts same o.ensures.status_value c.requires.paths_in c.requires.on_value o.ensures.parts_value done);
+      owners_in = owners_in a.base.now (masters_kept a.masters) a.e (own a.base.now a.e a.r.0) owners
+          (known a.base.now a.e a.masters a.r.0 part at a.named.on a.named.master owners same o.status c.requires.paths_in c.requires.on_value o.found);
       in_set = c.requires.in_set;
     }
 
@@ -130,17 +128,16 @@ returns c =
     let at = c.record_places-at.result in
     let kept = c.record_places-at.ensures.result_value in
     let same = keys a.base.now a.e a.r.0 part at c.record_of-part.ensures c.requires.paths_in.points kept in
-    let o = c.all_owners-found in
-    let done : o.result.status ≡ Done = status-number-one _ Done (sym c.number.ensures ∙ c.if-number-ne0.false) in
+    let o = c.in_ok-owners.ensures in
+    let owners = c.in_ok-owners.owners in
+    let held = known a.base.now a.e a.masters a.r.0 part at a.named.on a.named.master owners same o.status c.requires.paths_in c.requires.on_value o.found in
     -- what was asked of the keys in the part
-    let asked : c.delete_known.result.status ≡ cond (damaged a.base.now a.e (record_of a.base.now a.e a.r.0) at o.result.parts (own_links a.base.now a.e a.r.0)) Damg Done
-    = c.delete_known.ensures.status_value
-    ∙ ap (λ (part : List ℕ). cond (damaged a.base.now a.e part at o.result.parts (own_links a.base.now a.e a.r.0)) Damg Done) c.record_of-part.ensures in record {
-      status_value = λ t of.
-          del_answer a.base.now t a.e a.r.0 o.result.parts
-          (known-by-schema a.base.now t a.e a.masters (own a.base.now a.e a.r.0) o.result.parts of
-          (known a.base.now a.e a.masters a.r.0 part at a.named.on a.named.master o.result.status o.result.parts same o.ensures.status_value c.requires.paths_in c.requires.on_value o.ensures.parts_value done))
-          at a.named.on c.delete_known.result (places a.e at kept) c.requires.in_set
-          (sym (others_under a.base.now a.e a.masters a.r.0 part at a.named.on o.result.status same o.ensures.status_value t of) ∙ done) asked c.delete_known.ensures.built;
-      none_refused = c.delete_known.ensures.none_refused;
+    let asked : status_of c.delete_known.result ≡ cond (damaged a.base.now a.e (record_of a.base.now a.e a.r.0) at owners (own_links a.base.now a.e a.r.0)) Damg Done
+    = c.delete_known.ensures.status
+    ∙ ap (λ (part : List ℕ). cond (damaged a.base.now a.e part at owners (own_links a.base.now a.e a.r.0)) Damg Done) c.record_of-part.ensures in record {
+      status = λ t of.
+          del_answer a.base.now t a.e a.r.0 owners (known-by-schema a.base.now t a.e a.masters (own a.base.now a.e a.r.0) owners of held) at a.named.on (places a.e at kept)
+          (sym (others_under a.base.now a.e a.masters a.r.0 part at a.named.on Done same o.status t of)) asked;
+      plan = λ t of.
+          del_plan a.base.now t a.e a.r.0 owners (known-by-schema a.base.now t a.e a.masters (own a.base.now a.e a.r.0) owners of held) at c.delete_known.result c.requires.in_set asked c.delete_known.ensures.built;
     }

@@ -12,4 +12,4 @@ with_sides-requires c = record { count_value = rw c.of-plan.ensures refl; points
 pub returns : goal.returns
 returns c =
     let a = c.args in
-    built a.e a.owners a.links (replicate 4 (both a.r)) (both_on a.e a.r) Variable (record { 0 = a.r }) _ _ c.of-plan.ensures c.with_sides.ensures (both-same a.e a.r c.requires.points_in.few)
+    built a.e a.owners a.links (replicate 4 (both a.r.0)) (both_on a.e a.r.0) Variable a.r _ _ c.of-plan.ensures c.with_sides.ensures (both-same a.e a.r.0 c.requires.points_in.few)

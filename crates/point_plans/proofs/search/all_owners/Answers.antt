@@ -1,73 +1,82 @@
 use Prim.Native.Nat.{ℕ, ◌<◌}
-use mathlib.Core.Path.{◌≡◌, refl, ap, sym, ◌∙◌}
+use mathlib.Core.Path.{◌≡◌, refl, sym, ap, ◌∙◌}
 use mathlib.Core.List.{List}
 use native.Mathlib.Omega.{arith}
-use lib.ListN.{get_or, drop, replicate}
+use lib.ListN.{get_or}
 use borrow.Author.Rules.{rules}
+use Rattle.std.proofs.lemmas.Result.{err_from_is_err_and}
+use Rattle.std.specs.Prelude.{Result}
 use Rattle.octets.specs.Octets.{run}
 use Rattle.octets.specs.BelowLaws.{fill_step, rest-step}
-use Rattle.terms.specs.Status.{status_number}
-use Rattle.terms.specs.Terms.{key_of}
+use Rattle.terms.specs.declared.Refusal.{Refusal}
+use Rattle.terms.specs.declared.Status.TheVariants.{Done}
+use Rattle.terms.specs.Status.{status_by}
+use Rattle.terms.specs.Laws.{refusal-counts}
+use Rattle.schema.specs.declared.Entry.{Entry}
 use Rattle.schema.specs.declared.Path.{Path}
 use Rattle.schema.specs.declared.Part.{Part}
+use Rattle.schema.specs.Decode.{path_of}
 use Rattle.records.specs.InBase.{masters_kept}
 use Rattle.masters.specs.Find.{find}
-use Rattle.point_plans.specs.declared.Owner.{Owner}
 use Rattle.point_plans.specs.Paths.{owner_of, owner_on, key_at}
-use Rattle.point_plans.specs.PathLaws.{named_here, others-none, others-turn, others_refuse}
+use Rattle.point_plans.specs.PathLaws.{named_here, others-none, others-turn, others_refuse, owner_refused, owner_found, owner_part}
 use Rattle.point_plans.proofs.search.all_owners.Goals as goal
+
+-- the key that was read is path k's
+read : {key : List ℕ} {p : Path} (src : List ℕ) (e : Entry) (at : List ℕ) (k : ℕ) → p ≡ path_of e k → key ≡ run src (get_or at k 0) p.len → key ≡ key_at src e at k
+read src e at k q h = h ∙ ap (λ (p : Path). run src (get_or at k 0) p.len) q
+
+-- so what was found is that of path k
+owned : {key same : List ℕ} {o : Result Part Refusal} (b : List ℕ) (absent : Refusal) (x : Entry) → key ≡ same → o ≡ owner_of absent x (find b x key) → owner_of absent x (find b x same) ≡ o
+owned b absent x q h = sym (h ∙ ap (λ (key : List ℕ). owner_of absent x (find b x key)) q)
 
 pub loop-k-init : goal.loop-k-init
 loop-k-init c =
     let a = c.args in
-    (omega arith, refl, c.requires.paths_in.points.few, refl, others-none a.base.now ((masters_kept c.args.masters)) a.named.on a.absent ((key_at c.args.src.now c.args.e c.args.at)), refl, refl)
+    (refl, others-none a.base.now (masters_kept a.masters) a.named.on (status_by a.absent) (key_at a.src.now a.e a.at), refl, refl)
 
 pub part-key-requires : goal.part-key-requires
 part-key-requires c =
-    let h = (let by_one_of2 : c.loop-k.k < c.args.e.count = omega (arith, c.loop-k.invariant) in by_one_of2) in
+    let h : c.loop-k.k < c.args.e.count = omega arith in
     rw c.path_of-p.ensures ((c.requires.paths_in.points.path c.loop-k.k h).key, c.requires.keys_in.inside c.loop-k.k h)
 
-pub owner_on-o-requires : goal.owner_on-o-requires
-owner_on-o-requires c =
-    record {
-      masters_in = rw c.path_of-p.ensures (c.requires.paths_in.masters c.loop-k.k ((let by_one_of2 : c.loop-k.k < c.args.e.count = omega (arith, c.loop-k.invariant) in by_one_of2)));
+pub owner_on-requires : goal.owner_on-requires
+owner_on-requires c =
+    let a = c.args in
+    let k = c.loop-k.k in
+    let h : k < a.e.count = omega arith in record {
+      masters_in = rw c.path_of-p.ensures (c.requires.paths_in.masters k h);
       len_value = c.part-key.ensures.1;
-      key_value = λ q. rw ((let by_key_of3 : (key_of c.part-key.result ≡ (key_at c.args.src.now c.args.e c.args.at) c.loop-k.k) = let a = c.args in
-          c.part-key.ensures.0 ∙ ap (λ (p : Path). run a.src.now (get_or a.at c.loop-k.k 0) p.len) c.path_of-p.ensures in by_key_of3)) (named_here c.args.base.now ((masters_kept c.args.masters)) ((key_at c.args.src.now c.args.e c.args.at)) q c.requires.on_value);
+      key_value = λ q. rw (read a.src.now a.e a.at k c.path_of-p.ensures c.part-key.ensures.0) (named_here a.base.now (masters_kept a.masters) (key_at a.src.now a.e a.at) q c.requires.on_value);
     }
 
-pub returns-then-number-ne0 : goal.returns-then-number-ne0
-returns-then-number-ne0 c =
+pub returns-in_err-parts-clause-status : goal.returns-in_err-parts-clause-status
+returns-in_err-parts-clause-status c =
     let a = c.args in
-    let n : status_number c.owner_on-o.result.status ≡ 0 → ⊥ = λ z. c.if-number-ne0.true (c.number.ensures ∙ z) in record {
-      status_value = others_refuse a.base.now ((masters_kept c.args.masters)) a.named.on a.absent ((key_at c.args.src.now c.args.e c.args.at)) c.loop-k.k a.e.count _ a.named.master c.loop-k.invariant.4 c.requires.on_value
-          (ap (λ (o : Owner). o.status) ((let by_owned8 : (let k = c.loop-k.k in c.owner_on-o.result ≡ owner_of c.args.absent ((masters_kept c.args.masters) k) (find c.args.base.now ((masters_kept c.args.masters) k) ((key_at c.args.src.now c.args.e c.args.at) k))) = let x = (masters_kept c.args.masters) c.loop-k.k in
-          c.owner_on-o.ensures ∙ ap (λ (key : List ℕ). owner_of c.args.absent x (find c.args.base.now x key)) ((let by_key_of15 : (key_of c.part-key.result ≡ (key_at c.args.src.now c.args.e c.args.at) c.loop-k.k) = let a = c.args in
-          c.part-key.ensures.0 ∙ ap (λ (p : Path). run a.src.now (get_or a.at c.loop-k.k 0) p.len) c.path_of-p.ensures in by_key_of15)) in by_owned8))) n ((let by_one_of4 : c.loop-k.k < c.args.e.count = omega (arith, c.loop-k.invariant) in by_one_of4));
-      parts_value = λ z. absurd (n (ap status_number z));
-      parts_value_2 = λ _. rw c.no_part-none.ensures refl;
-      parts_value_3 = rw c.no_part-none.ensures refl;
-    }
+    let k = c.loop-k.k in
+    let key = read a.src.now a.e a.at k c.path_of-p.ensures c.part-key.ensures.0 in
+    let why = c.in_err-parts.field-0.0 in
+    let p = err_from_is_err_and c.from_residual.result c.from_residual.ensures.1 in
+    rw (p.1, p.2)
+    (others_refuse a.base.now (masters_kept a.masters) a.named.on (status_by a.absent) (key_at a.src.now a.e a.at) k a.e.count (status_by why) a.named.master c.loop-k.invariant.1 c.requires.on_value
+    (owner_refused a.absent _ _ (owned a.base.now a.absent (masters_kept a.masters k) key c.owner_on.ensures ∙ c.in_err-parts.was))
+    (λ z. omega (arith, z, refusal-counts why)) (omega arith))
 
 pub loop-k-preserved : goal.loop-k-preserved
 loop-k-preserved c =
     let a = c.args in
-    let below = (let by_one_of4 : c.loop-k.k < c.args.e.count = omega (arith, c.loop-k.invariant) in by_one_of4) in (
-      omega (arith, below, c.loop-k.invariant),
-      refl,
-      c.loop-k.invariant.2,
+    let k = c.loop-k.k in
+    let i = c.loop-k.invariant in
+    let key = read a.src.now a.e a.at k c.path_of-p.ensures c.part-key.ensures.0 in
+    let o = owned a.base.now a.absent (masters_kept a.masters k) key c.owner_on.ensures ∙ c.in_ok-parts.was in (
       search rules,
-      others-turn a.base.now ((masters_kept c.args.masters)) a.named.on a.absent ((key_at c.args.src.now c.args.e c.args.at)) c.loop-k.k _ c.loop-k.invariant.4 (ap (λ (o : Owner). o.status) ((let by_owned9 : (let k = c.loop-k.k in c.owner_on-o.result ≡ owner_of c.args.absent ((masters_kept c.args.masters) k) (find c.args.base.now ((masters_kept c.args.masters) k) ((key_at c.args.src.now c.args.e c.args.at) k))) = let x = (masters_kept c.args.masters) c.loop-k.k in
-          c.owner_on-o.ensures ∙ ap (λ (key : List ℕ). owner_of c.args.absent x (find c.args.base.now x key)) ((let by_key_of23 : (key_of c.part-key.result ≡ (key_at c.args.src.now c.args.e c.args.at) c.loop-k.k) = let a = c.args in
-          c.part-key.ensures.0 ∙ ap (λ (p : Path). run a.src.now (get_or a.at c.loop-k.k 0) p.len) c.path_of-p.ensures in by_key_of23)) in by_owned9)))
-          (sym c.number.ensures ∙ c.if-number-ne0.false),
-      fill_step (owner_on a.base.now ((masters_kept c.args.masters)) ((key_at c.args.src.now c.args.e c.args.at))) c.loop-k.parts c.loop-k.k _ (omega (arith, below, c.loop-k.invariant)) c.loop-k.invariant.5 (ap (λ (o : Owner). o.part) ((let by_owned10 : (let k = c.loop-k.k in c.owner_on-o.result ≡ owner_of c.args.absent ((masters_kept c.args.masters) k) (find c.args.base.now ((masters_kept c.args.masters) k) ((key_at c.args.src.now c.args.e c.args.at) k))) = let x = (masters_kept c.args.masters) c.loop-k.k in
-          c.owner_on-o.ensures ∙ ap (λ (key : List ℕ). owner_of c.args.absent x (find c.args.base.now x key)) ((let by_key_of24 : (key_of c.part-key.result ≡ (key_at c.args.src.now c.args.e c.args.at) c.loop-k.k) = let a = c.args in
-          c.part-key.ensures.0 ∙ ap (λ (p : Path). run a.src.now (get_or a.at c.loop-k.k 0) p.len) c.path_of-p.ensures in by_key_of24)) in by_owned10))),
-      rest-step c.loop-k.parts _ c.loop-k.k _ c.loop-k.invariant.6,
+      others-turn a.base.now (masters_kept a.masters) a.named.on (status_by a.absent) (key_at a.src.now a.e a.at) k Done i.1 (owner_found a.absent _ _ o) refl,
+      fill_step (owner_on a.base.now (masters_kept a.masters) (key_at a.src.now a.e a.at)) c.loop-k.parts k _ (omega (arith, i.0, c.requires.paths_in.points.few)) i.2 (owner_part a.absent _ _ o),
+      rest-step c.loop-k.parts _ k _ i.3,
     )
 
 pub returns : goal.returns
 returns c =
     let k : c.loop-k.k ≡ c.args.e.count = omega arith in
-    record { status_value = sym (rw k at c.loop-k.invariant.4); parts_value = λ z. rw k at c.loop-k.invariant.5; parts_value_2 = λ z. absurd (z refl); parts_value_3 = rw k at c.loop-k.invariant.6 ∙ ap (λ (p : Part). drop c.args.e.count (replicate 4 p)) c.no_part-none.ensures }
+    let i = c.loop-k.invariant in
+    record { status = sym (rw k at i.1); found = rw k at i.2; rest = rw k at i.3 }

@@ -1,9 +1,9 @@
 -- `point_plans::search::all_owners` meets its contract. The invariant: every path passed has its master, and where it lies is kept.
-use Prim.Native.Nat.{◌-◌, ◌≤◌}
 use mathlib.Core.Path.{◌≡◌}
 use lib.ListN.{length, take, drop}
 use Rattle.octets.specs.Below.{upto}
 use Rattle.terms.specs.declared.Status.TheVariants.{Done}
+use Rattle.terms.specs.Status.{status_by}
 use Rattle.records.specs.InBase.{masters_kept}
 use Rattle.point_plans.specs.Rest.{other_masters}
 use Rattle.point_plans.specs.Paths.{owner_on, key_at}
@@ -11,13 +11,7 @@ use Rattle.point_plans.proofs.search.all_owners.Given as goal
 
 abbrev pub invariant-loop-k : goal.invariant-loop-k
 invariant-loop-k l =
-    (l.k ≤ l.paths)
-    × (l.paths ≡ l.e.count)
-    × (l.e.count ≤ 4)
-    × (length l.parts ≡ 4)
-    × (other_masters l.base (masters_kept l.masters) l.named.on l.absent (key_at l.src l.e l.at) l.k ≡ Done)
+    (length l.parts ≡ 4)
+    × (other_masters l.base (masters_kept l.masters) l.named.on (status_by l.absent) (key_at l.src l.e l.at) l.k ≡ Done)
     × (take l.k l.parts ≡ upto (owner_on l.base (masters_kept l.masters) (key_at l.src l.e l.at)) l.k)
     × (drop l.k l.parts ≡ drop l.k l.initial.parts)
-
-abbrev pub decreases-loop-k : goal.decreases-loop-k
-decreases-loop-k l = l.paths - l.k

@@ -1,5 +1,4 @@
 -- `point_plans::search::record_places` meets its contract. The invariant: the places of the paths passed are kept.
-use Prim.Native.Nat.{◌-◌, ◌≤◌}
 use mathlib.Core.Path.{◌≡◌}
 use lib.ListN.{length, take, drop}
 use Rattle.octets.specs.Below.{upto}
@@ -7,7 +6,4 @@ use Rattle.schema.specs.Decode.{path_of}
 use Rattle.point_plans.proofs.search.record_places.Given as goal
 
 abbrev pub invariant-loop-k : goal.invariant-loop-k
-invariant-loop-k l = (l.k ≤ l.count) × (l.count ≡ l.e.count) × (length l.at ≡ 4) × (take l.k l.at ≡ upto (λ j. (path_of l.e j).at) l.k) × (drop l.k l.at ≡ drop l.k l.initial.at)
-
-abbrev pub decreases-loop-k : goal.decreases-loop-k
-decreases-loop-k l = l.count - l.k
+invariant-loop-k l = (length l.at ≡ 4) × (take l.k l.at ≡ upto (λ j. (path_of l.e j).at) l.k) × (drop l.k l.at ≡ drop l.k l.initial.at)

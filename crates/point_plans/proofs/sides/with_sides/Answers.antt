@@ -1,6 +1,6 @@
-use mathlib.Core.Path.{◌≡◌, refl}
+use Prim.Native.Nat.{◌<◌}
+use mathlib.Core.Path.{◌≡◌}
 use native.Mathlib.Omega.{arith}
-use borrow.Author.Rules.{rules}
 use Rattle.point_plans.specs.Paths.{words_on}
 use Rattle.octets.specs.BelowLaws.{concat_below-none}
 use Rattle.point_plans.specs.PlanLaws.{longer_none, longer_turn}
@@ -8,23 +8,19 @@ use Rattle.point_plans.proofs.sides.with_sides.Goals as goal
 
 pub loop-k-init : goal.loop-k-init
 loop-k-init c =
-    (omega arith, refl, c.requires.points_in.few, longer_none c.args.plan 0 _ c.requires.count_value (concat_below-none (words_on c.args.e c.args.owners c.args.links c.args.values)))
+    longer_none c.args.plan 0 _ c.requires.count_value (concat_below-none (words_on c.args.e c.args.owners c.args.links c.args.values))
 
 pub with_path-made-requires : goal.with_path-made-requires
 with_path-made-requires c =
-    let h = c.loop-k-test.true in
-    let k = c.loop-k.k in record { count_bound = omega (arith, c.loop-k.invariant.3.count, c.loop-k.invariant.2); lies_in = c.requires.points_in.lies; path_in = rw c.path_of-p.ensures (c.requires.points_in.path k h); link_bound = rw c.path_of-p.ensures (c.requires.owners_in.owner k h).link; link_in = c.requires.links_in.inside k h }
+    let h : c.loop-k.k < c.args.e.count = omega arith in
+    let k = c.loop-k.k in record { count_bound = omega (arith, c.loop-k.invariant.count, c.requires.points_in.few); lies_in = c.requires.points_in.lies; path_in = rw c.path_of.ensures (c.requires.points_in.path k h); link_bound = rw c.path_of.ensures (c.requires.owners_in.owner k h).link; link_in = c.requires.links_in.inside k h }
 
 pub loop-k-preserved : goal.loop-k-preserved
 loop-k-preserved c =
-    let a = c.args in (
-      search rules,
-      refl,
-      c.loop-k.invariant.2,
-      longer_turn a.plan c.loop-k.made c.with_path-made.result (words_on a.e a.owners a.links a.values) c.loop-k.k _ c.loop-k.invariant.3 c.with_path-made.ensures (rw c.path_of-p.ensures),
-    )
+    let a = c.args in
+    longer_turn a.plan c.loop-k.made c.with_path-made.result (words_on a.e a.owners a.links a.values) c.loop-k.k _ c.loop-k.invariant c.with_path-made.ensures (rw c.path_of.ensures)
 
 pub returns : goal.returns
 returns c =
     let k : c.loop-k.k ≡ c.args.e.count = omega arith in
-    rw k at c.loop-k.invariant.3
+    rw k at c.loop-k.invariant
