@@ -1,9 +1,11 @@
 -- ADD-M: what its tests and its plans come to, in the shape in which the code makes them.
-use Rattle.std.specs.Prelude.{ℕ, ◌≤◌, ◌<◌, ◌≡◌, refl, Bool, true, false, cond, not, ◌&&◌, ◌||◌, List, [], ◌++◌, eqb, length}
+use Rattle.std.specs.Prelude.{ℕ, ◌≤◌, ◌<◌, ◌≡◌, refl, Bool, true, false, cond, not, ◌&&◌, ◌||◌, List, [], ◌++◌, eqb, length, Some}
 use Rattle.std.proofs.Common.{sym, ap, ◌∙◌, append-nil, arith}
 use borrow.Author.Tests.{lt-ltb, le-ltb}
 use Rattle.terms.specs.declared.Status.TheVariants.{Done, Full, Damg}
+use Rattle.terms.specs.declared.RecordNo.{RecordNo}
 use Rattle.schema.specs.declared.Entry.{Entry}
+use Rattle.schema.specs.Numbers.{record_up_to, some_record}
 use Rattle.schema.specs.Place.{InSet, LiesIn}
 use Rattle.schema.specs.Guarantee.{MasterOk}
 use Rattle.records.specs.Records.{is_live, root_next, root_prior}
@@ -52,6 +54,10 @@ stranger_near b e h k =
     let o = neither (eqb (root_prior b e h) 0 || bad_root b e (root_prior b e h)) (bad_root b e (root_next b e h)) k in
     let q = neither (eqb (root_prior b e h) 0) (bad_root b e (root_prior b e h)) o.0 in
     (not_bad b e (root_prior b e h) q.1, not_bad b e (root_next b e h) o.1)
+
+-- the record that is free, where there is one
+pub free_least : (b : List ℕ) (e : Entry) {n : RecordNo} → Some n ≡ record_up_to e.records (lowest_free b e) → (n.0 ≡ lowest_free b e) × (lowest_free b e ≤ e.records)
+free_least b e s = let w = some_record e.records (lowest_free b e) s in (w.0, rw w.0 at w.1)
 
 -- the home is live, and the set has a free record
 own_or_stranger : (o d : Bool) → cond (not o && d) Damg Done ≡ cond o Done (cond d Damg Done)

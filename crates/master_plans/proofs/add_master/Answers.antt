@@ -1,45 +1,49 @@
--- `master_plans::add_master` meets its contract: the home is free, the set is full, or a free record is taken. Assumes nothing.
-use Prim.Native.Nat.{◌≤◌, ◌<◌}
-use mathlib.Core.Path.{◌≡◌, refl, sym, ◌∙◌}
-use mathlib.Core.Bool.{true}
-use native.Mathlib.Omega.{arith}
-use Rattle.records.specs.Records.{is_live}
-use Rattle.scan.specs.Scan.{lowest_free}
-use Rattle.master_plans.specs.TestLaws.{stands_as}
-use Rattle.master_plans.specs.AddLaws.{home-stands, add-home-status, add-home-stores, add-full, add-beside-status, add-beside-stores, free_in, free_apart}
-use Rattle.plans.proofs.MadeLaws.{refused-status, refused_none, none-refused}
-use Rattle.terms.specs.Laws.{refused-done}
+use Rattle.std.proofs.Common.{sym, ◌∙◌}
+use Rattle.terms.specs.declared.Refusal.TheVariants.{Full}
+use Rattle.schema.specs.Numbers.{no_record_up_to}
+use Rattle.master_plans.specs.TestLaws.{stands_as, stands_as-ok, status_of_err, refused_as}
+use Rattle.master_plans.specs.AddLaws.{home-stands, add-home-status, add-home-stores, add-full, add-beside-status, add-beside-stores, free_in, free_apart, free_least}
 use Rattle.master_plans.proofs.add_master.Goals as goal
 
-pub returns-then-not-is_live : goal.returns-then-not-is_live
-returns-then-not-is_live c =
-    let a = c.args in
-    let l = sym c.is_live.ensures ∙ c.if-not-is_live.true in
-    let z = stands_as (home-stands a.base.now a.e c.requires.lies_in c.requires.master_ok a.h.0 c.requires.in_set c.start-plan.ensures) (add-home-stores a.base.now a.e a.h.0 l) in
-    record { status_value = add-home-status a.base.now a.e a.h.0 l; by_index = λ _. (z.stores, z.ok); none_refused = none-refused refl }
+pub returns-then-not-is_live-clause-status_value : goal.returns-then-not-is_live-clause-status_value
+returns-then-not-is_live-clause-status_value c = add-home-status c.args.base.now c.args.e c.args.h.0 (sym c.is_live.ensures ∙ c.if-not-is_live.true)
 
-pub returns-then-e-free : goal.returns-then-e-free
-returns-then-e-free c =
+pub returns-then-not-is_live-clause-stands_for : goal.returns-then-not-is_live-clause-stands_for
+returns-then-not-is_live-clause-stands_for c =
     let a = c.args in
-    let f : a.e.records < lowest_free a.base.now a.e = omega (arith, c.lowest_free-free.ensures, c.if-e-free.true) in
-    let q = refused-status c.refused.ensures in
-    record { status_value = q ∙ add-full a.base.now a.e a.h.0 ((let by_live : is_live c.args.base.now c.args.e c.args.h.0 ≡ true = sym c.is_live.ensures ∙ c.if-not-is_live.false in by_live)) f; by_index = refused-done q (omega arith); none_refused = refused_none c.refused.ensures }
+    stands_as (home-stands a.base.now a.e c.requires.lies_in c.requires.master_ok a.h.0 c.requires.in_set c.start.ensures)
+    (add-home-stores a.base.now a.e a.h.0 (sym c.is_live.ensures ∙ c.if-not-is_live.true))
 
-pub add_beside-requires : goal.add_beside-requires
-add_beside-requires c =
+pub returns-in_err-free-clause-status_value : goal.returns-in_err-free-clause-status_value
+returns-in_err-free-clause-status_value c =
     let a = c.args in
-    let l = (let by_live2 : is_live c.args.base.now c.args.e c.args.h.0 ≡ true = sym c.is_live.ensures ∙ c.if-not-is_live.false in by_live2) in
-    let f = (let by_small : lowest_free c.args.base.now c.args.e ≤ c.args.e.records = omega (arith, c.lowest_free-free.ensures, c.if-e-free.false) in by_small) in record { lies_in = c.requires.lies_in; master_ok = c.requires.master_ok; in_set = c.requires.in_set; in_set_2 = rw c.lowest_free-free.ensures (free_in a.base.now a.e a.h.0 l f); fact = rw c.lowest_free-free.ensures (free_apart a.base.now a.e a.h.0 l f); in_set_3 = λ o. (c.requires.last_value o).1 }
+    let w = c.in_err-free.ensures in
+    let f = no_record_up_to a.e.records _ (sym w.ok_part ∙ c.lowest_free.ensures) in
+    status_of_err _ c.from_residual.result c.from_residual.ensures.1
+    ∙ refused_as _ Full (rw w.ok_part at w.value)
+    ∙ add-full a.base.now a.e a.h.0 (sym c.is_live.ensures ∙ c.if-not-is_live.false) f
 
-pub returns : goal.returns
-returns c =
+pub add_beside-requires-clause-in_set_2 : goal.add_beside-requires-clause-in_set_2
+add_beside-requires-clause-in_set_2 c =
     let a = c.args in
-    let l = (let by_live2 : is_live c.args.base.now c.args.e c.args.h.0 ≡ true = sym c.is_live.ensures ∙ c.if-not-is_live.false in by_live2) in
-    let f = (let by_small : lowest_free c.args.base.now c.args.e ≤ c.args.e.records = omega (arith, c.lowest_free-free.ensures, c.if-e-free.false) in by_small) in
-    record {
-      status_value = c.add_beside.ensures.status_value ∙ add-beside-status a.base.now a.e a.h.0 l f;
-      by_index = λ d.
-          let z = stands_as (rw c.lowest_free-free.ensures at (c.add_beside.ensures.stands_for d)) (add-beside-stores a.base.now a.e a.h.0 l f a.last.0 (λ o. (c.requires.last_value o).0)) in
-          (z.stores, z.ok);
-      none_refused = c.add_beside.ensures.none_refused;
-    }
+    let f = free_least a.base.now a.e (sym c.in_ok-free.ensures.ok_part ∙ c.lowest_free.ensures) in
+    rw f.0 (free_in a.base.now a.e a.h.0 (sym c.is_live.ensures ∙ c.if-not-is_live.false) f.1)
+
+pub add_beside-requires-clause-fact : goal.add_beside-requires-clause-fact
+add_beside-requires-clause-fact c =
+    let a = c.args in
+    let f = free_least a.base.now a.e (sym c.in_ok-free.ensures.ok_part ∙ c.lowest_free.ensures) in
+    rw f.0 (free_apart a.base.now a.e a.h.0 (sym c.is_live.ensures ∙ c.if-not-is_live.false) f.1)
+
+pub returns-clause-status_value : goal.returns-clause-status_value
+returns-clause-status_value c =
+    let a = c.args in
+    let f = free_least a.base.now a.e (sym c.in_ok-free.ensures.ok_part ∙ c.lowest_free.ensures) in
+    c.add_beside.ensures.status_value ∙ add-beside-status a.base.now a.e a.h.0 (sym c.is_live.ensures ∙ c.if-not-is_live.false) f.1
+
+pub returns-clause-stands_for : goal.returns-clause-stands_for
+returns-clause-stands_for c =
+    let a = c.args in
+    let f = free_least a.base.now a.e (sym c.in_ok-free.ensures.ok_part ∙ c.lowest_free.ensures) in
+    stands_as-ok a.base.now a.e c.add_beside.result (rw f.0 at c.add_beside.ensures.stands_for)
+    (add-beside-stores a.base.now a.e a.h.0 (sym c.is_live.ensures ∙ c.if-not-is_live.false) f.1 a.last.0 (λ o. (c.requires.last_value o).0))

@@ -1,36 +1,33 @@
-use mathlib.Core.Path.{ap, ◌∙◌}
-use mathlib.Core.Bool.{not}
-use native.Mathlib.Omega.{arith}
+use Rattle.std.proofs.Common.{refl, ap, sym, ◌∙◌, arith}
+use Rattle.std.specs.Prelude.{not}
 use Rattle.octets.specs.Below.{all_below}
-use Rattle.octets.specs.BelowLaws.{joined, joined-all}
+use Rattle.octets.specs.BelowLaws.{joined-all, all_below-turn, all_below-fails}
 use Rattle.schema.specs.Decode.{entry_of, set_count}
-use Rattle.schema.proofs.GuaranteeLaws.{lies}
 use Rattle.master_plans.specs.Shape.{empty_in}
-use Rattle.master_plans.specs.PointLaws.{paths-few, path_link-inside, points-are}
-use borrow.Author.Rules.{rules}
+use Rattle.master_plans.specs.PointLaws.{points-are}
 use Rattle.master_plans.proofs.has_points.Goals as goal
 
 pub loop-i-init : goal.loop-i-init
 unfolding all_below
-loop-i-init c = search rules
+loop-i-init c = refl
 
-pub empty_in-ok-requires : goal.empty_in-ok-requires
-empty_in-ok-requires c =
+pub returns-then-not-empty_in : goal.returns-then-not-empty_in
+returns-then-not-empty_in c =
     let a = c.args in
-    let ok = c.requires.schema_ok in
-    let k = c.requires.n_lt_masters in
-    let i = c.loop-i-test.true in record { lies_in = rw c.requires.e_value (lies a.n.0 ok (omega arith) c.requires.base_len); in_set = c.requires.in_set; count_bound = rw c.entry_of.ensures (paths-few ok c.loop-i.i i); link_inside = rw (c.entry_of.ensures, c.requires.e_value) (path_link-inside ok a.n.0 c.loop-i.i k i) }
+    let e =
+    all_below-fails (λ k. empty_in a.base.now a.e a.n.0 a.r.0 (entry_of a.t k)) (set_count a.t) c.loop-i.i (omega (arith, c.loop-i-test.true, c.sets-i-end.ensures))
+    (rw c.entry_of.ensures at (sym c.if-not-empty_in.ensures)) in
+    ap not (sym e) ∙ points-are a.t a.base.now a.n.0 a.r.0 a.e c.requires.e_value
 
 pub loop-i-preserved : goal.loop-i-preserved
 loop-i-preserved c =
-    let a = c.args in (
-      search rules,
-      joined (λ k. empty_in a.base.now a.e a.n.0 a.r.0 (entry_of a.t k)) c.loop-i.i c.loop-i.invariant.1
-          (c.empty_in-ok.ensures ∙ ap (empty_in a.base.now a.e a.n.0 a.r.0) c.entry_of.ensures),
-    )
+    let a = c.args in
+    all_below-turn (λ k. empty_in a.base.now a.e a.n.0 a.r.0 (entry_of a.t k)) c.loop-i.i c.loop-i.invariant (rw c.entry_of.ensures at (sym c.if-not-empty_in.ensures))
 
 pub returns : goal.returns
 returns c =
     let a = c.args in
-    ap not (joined-all (λ k. empty_in a.base.now a.e a.n.0 a.r.0 (entry_of a.t k)) (set_count a.t) c.loop-i.i c.loop-i.invariant.0 (search rules) c.loop-i.invariant.1)
-    ∙ points-are a.t a.base.now a.n.0 a.r.0 a.e c.requires.e_value
+    let all =
+    joined-all (λ k. empty_in a.base.now a.e a.n.0 a.r.0 (entry_of a.t k)) (set_count a.t) c.loop-i.i (omega (arith, c.loop-i.auto.i-end, c.sets-i-end.ensures))
+    (omega (arith, c.loop-i-test.false, c.sets-i-end.ensures)) (sym c.loop-i.invariant) in
+    ap not all ∙ points-are a.t a.base.now a.n.0 a.r.0 a.e c.requires.e_value
