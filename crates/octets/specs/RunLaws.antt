@@ -1,11 +1,14 @@
 -- The laws of tests and sums over a run: a loop keeps what the run from place i on gives, so each has a turn, a failure and an end.
-use Rattle.std.specs.Prelude.{◌≡◌, ℕ, zero, suc, ◌+◌, ◌*◌, ◌%◌, ◌<◌, ◌≤◌, Bool, true, false, ◌&&◌, List, [], ◌∷◌, ◌++◌, length, drop, replicate, ◌==◌, ◌≢◌, slice_index, refl}
-use Rattle.std.proofs.Common.{sym, ap, ◌∙◌, arith, mod-lt, mod-eq_of_lt, lit<, length-drop}
+use Rattle.std.specs.Prelude.{◌≡◌, ℕ, zero, suc, ◌+◌, ◌*◌, ◌/◌, ◌%◌, ◌<◌, ◌≤◌, Bool, true, false, ◌&&◌, List, [], ◌∷◌, ◌++◌, length, drop, replicate, get_or, ◌==◌, nat_eq, ◌≢◌, slice_index, refl}
+use Rattle.std.proofs.Common.{sym, ap, ◌∙◌, arith, mod-lt, mod-eq_of_lt, lit<, add-one, drop-cons}
 use Rattle.std.proofs.Math.Bool.{and_assoc, and-eq-true_iff}
 use Rattle.std.proofs.Math.ListN.{drop_of_length-le}
-use borrow.Author.Tests.{eq-eqb, ne_eqb, eqb-true}
-use Rattle.octets.specs.Octets.{word4, word_at, zeros, every, is, all_zero, same_bytes, sum_onto}
-use Rattle.octets.specs.SpliceLaws.{drop-one, drop-four}
+use borrow.Author.Tests.{eq-eqb, eqb-true}
+use Rattle.std.specs.List.{fold}
+use Rattle.std.specs.Simd.{first_chunks}
+use Rattle.std.specs.Cmp.Lexicographic.{pointwise}
+use Rattle.octets.specs.Octets.{word4, zeros, every, is, all_zero, same_bytes, sum_onto}
+use Rattle.octets.specs.SpliceLaws.{drop-one}
 
 -- a test that cannot be true is false; two tests that are true together are equal
 pub refuted : (t : Bool) → (t ≢ true) → t ≡ false
@@ -69,19 +72,13 @@ all_zero_eq (x ∷ xs) h =
 
 -- ---- same_bytes
 
-module _ (xs ys : List ℕ) (i : ℕ) where
-  pub same_turn : i < length xs → i < length ys → slice_index xs i ≡ slice_index ys i
-      → same_bytes (drop i xs) (drop i ys) ≡ same_bytes (drop (i + 1) xs) (drop (i + 1) ys)
-  unfolding same_bytes
-  same_turn h k e = rw (drop-one xs i h, drop-one ys i k, eq-eqb _ _ e)
-
-  pub same_fails : i < length xs → i < length ys → (slice_index xs i ≢ slice_index ys i) → same_bytes (drop i xs) (drop i ys) ≡ false
-  unfolding same_bytes
-  same_fails h k e = rw (drop-one xs i h, drop-one ys i k, ne_eqb _ _ e)
-
-  pub same_end : length xs ≤ i → length ys ≤ i → same_bytes (drop i xs) (drop i ys) ≡ true
-  unfolding same_bytes
-  same_end h k = rw (drop_of_length-le xs {i = i} h, drop_of_length-le ys {i = i} k)
+-- it is what `==` of slices answers
+pub pointwise-same : (xs ys : List ℕ) → pointwise nat_eq xs ys ≡ same_bytes xs ys
+unfolding same_bytes
+pointwise-same [] [] = refl
+pointwise-same [] (y ∷ ys) = refl
+pointwise-same (x ∷ xs) [] = refl
+pointwise-same (x ∷ xs) (y ∷ ys) = ap (λ (t : Bool). x == y && t) (pointwise-same xs ys)
 
 -- the test tells whether the runs are equal
 pub same_bytes_eq : (xs ys : List ℕ) → same_bytes xs ys ≡ true → xs ≡ ys
@@ -113,12 +110,6 @@ same_bytes_comm xs ys =
 
 -- ---- sum_onto
 
--- a turn, in the words of the code: the word read and the wrapping sum
-pub sum_turn : (acc : ℕ) (xs : List ℕ) (i : ℕ) {w r : ℕ} → i + 4 ≤ length xs → w ≡ word_at xs i → r ≡ (acc + w) % 4294967296
-    → sum_onto acc (drop i xs) ≡ sum_onto r (drop (i + 4) xs)
-unfolding sum_onto word_at
-sum_turn acc xs i h ew er = rw (er, ew, drop-four xs i h)
-
 sum_short : (acc : ℕ) (xs : List ℕ) → length xs < 4 → sum_onto acc xs ≡ acc
 unfolding sum_onto
 sum_short acc [] h = refl
@@ -127,8 +118,31 @@ sum_short acc (a ∷ b ∷ []) h = refl
 sum_short acc (a ∷ b ∷ c ∷ []) h = refl
 sum_short acc (a ∷ b ∷ c ∷ d ∷ xs) h = absurd (omega arith)
 
-pub sum_end : (acc : ℕ) (xs : List ℕ) (i : ℕ) → length xs < i + 4 → sum_onto acc (drop i xs) ≡ acc
-sum_end acc xs i h = sum_short acc (drop i xs) (rw length-drop (omega arith))
+-- a word, as the list of its four bytes, onto what is summed already
+abbrev pub added : ℕ → List ℕ → ℕ
+added acc w = (acc + word4 (slice_index w 0) (slice_index w 1) (slice_index w 2) (slice_index w 3)) % 4294967296
+
+-- a loop over the words: its turn and its end
+pub words_turn : (acc : ℕ) (words : List (List ℕ)) (i : ℕ) (d : List ℕ) → i < length words
+    → fold added acc (drop i words) ≡ fold added (added acc (get_or words i d)) (drop (i + 1) words)
+words_turn acc words i d h = rw (add-one, drop-cons words i d)
+
+pub words_end : (acc : ℕ) (words : List (List ℕ)) (i : ℕ) → length words ≤ i → fold added acc (drop i words) ≡ acc
+words_end acc words i h = rw (drop_of_length-le words {i = i} h)
+
+-- the fold over the words is the sum; k is how many words they are
+sum_of_words : (k acc : ℕ) (xs : List ℕ) → k * 4 ≤ length xs → length xs < k * 4 + 4 → fold added acc (first_chunks 4 k xs) ≡ sum_onto acc xs
+unfolding sum_onto
+sum_of_words zero acc xs h l = sym (sum_short acc xs (omega arith))
+sum_of_words (suc k) acc [] h l = absurd (omega arith)
+sum_of_words (suc k) acc (a ∷ []) h l = absurd (omega arith)
+sum_of_words (suc k) acc (a ∷ b ∷ []) h l = absurd (omega arith)
+sum_of_words (suc k) acc (a ∷ b ∷ c ∷ []) h l = absurd (omega arith)
+sum_of_words (suc k) acc (a ∷ b ∷ c ∷ d ∷ xs) h l =
+    sum_of_words k ((acc + word4 a b c d) % 4294967296) xs (omega arith) (omega arith)
+
+pub sum_of_chunks : (acc : ℕ) (xs : List ℕ) → fold added acc (first_chunks 4 (length xs / 4) xs) ≡ sum_onto acc xs
+sum_of_chunks acc xs = sum_of_words (length xs / 4) acc xs (omega arith) (omega arith)
 
 pub sum_onto_lt : (acc : ℕ) (xs : List ℕ) → acc < 4294967296 → sum_onto acc xs < 4294967296
 unfolding sum_onto

@@ -1,9 +1,12 @@
 -- The laws of `splice` and `run`: what a store changes and what it leaves.
-use Rattle.std.specs.Prelude.{◌≡◌, ℕ, zero, suc, ◌+◌, ◌-◌, ◌<◌, ◌≤◌, List, [], ◌∷◌, ◌++◌, length, take, drop, set, replicate, slice_index, slice_set, refl}
-use Rattle.std.proofs.Common.{sym, ap, ◌∙◌, append-nil, arith, add-one, length-set, length-take, length-drop, length-take-le, take-suc, take-take, drop-cons, drop-drop, get_or-take, get_or-drop, get_or-set_same, get_or-set_other, set-set, drop-set-lt, ext_get_or}
-use Rattle.std.proofs.lemmas.List.{length-replicate, replicate-append-replicate, set_comm, set-get_or, take-set-le, drop-set-add}
+use Rattle.std.specs.Prelude.{◌≡◌, ℕ, zero, suc, ◌+◌, ◌-◌, ◌<◌, ◌≤◌, List, [], ◌∷◌, ◌++◌, length, take, drop, set, slice_index, slice_set, refl}
+use Rattle.std.proofs.Common.{sym, ap, ◌∙◌, append-nil, append_assoc, arith, add-one, length-set, length-take, length-drop, length-take-le, take-take, drop-cons, drop-drop, get_or-take, get_or-drop, get_or-set_same, get_or-set_other, set-set, drop-set-lt, ext_get_or}
+use Rattle.std.proofs.lemmas.List.{set_comm, set-get_or, take-set-le, drop-set-add}
 use Rattle.std.proofs.Math.Seq.{take-length, take-set-lt, drop-length}
-use Rattle.std.proofs.lemmas.List.Edits.{sets, sets-eq}
+use Rattle.std.proofs.lemmas.List.Edits.{sets, sets-eq, paste_all}
+use Rattle.std.proofs.lemmas.Slice.{put_mid-paste}
+use Rattle.std.specs.List.{copy_within}
+use native.Mathlib.Nat.{add-sub_cancel_left}
 use borrow.Rule.Slice.PartMut.{put_mid, put_same}
 use Rattle.octets.specs.Octets.{Bytes, Apart, run, splice, zeros}
 
@@ -124,30 +127,6 @@ splice_append xs a (y ∷ ys) zs =
     let e : a + suc (length ys) ≡ a + 1 + length ys = omega arith in
     rw e (splice_append (slice_set xs a y) (a + 1) ys zs)
 
--- one more element at the end: a turn of a loop that stores
-pub splice_snoc : (xs : List ℕ) (a : ℕ) (ys : List ℕ) (v : ℕ) → splice xs a (ys ++ (v ∷ [])) ≡ slice_set (splice xs a ys) (a + length ys) v
-unfolding splice
-splice_snoc xs a ys v = splice_append xs a ys (v ∷ [])
-
--- the same, as a loop that copies has it
-pub splice-turn : (xs : List ℕ) (a : ℕ) (ys : List ℕ) (i : ℕ) → i < length ys
-    → slice_set (splice xs a (take i ys)) (a + i) (slice_index ys i) ≡ splice xs a (take (i + 1) ys)
-splice-turn xs a ys i h =
-    let l : length (take i ys) ≡ i = length-take-le i ys (omega arith) in
-    sym (rw (add-one, take-suc ys i 0, splice_snoc, l) refl)
-
--- the same, where each element is d
-pub splice_fill : (xs : List ℕ) (a d i : ℕ) → slice_set (splice xs a (replicate i d)) (a + i) d ≡ splice xs a (replicate (i + 1) d)
-splice_fill xs a d i = sym (rw (← replicate-append-replicate i 1 d, splice_snoc, length-replicate) refl)
-
--- the same, where the n elements are read from the list itself, at places apart from those that are stored to
-pub moved : (xs : List ℕ) (from to n i : ℕ) → Apart to n from n → i < n → from + n ≤ length xs
-    → slice_set (splice xs to (run xs from i)) (to + i) (slice_index (splice xs to (run xs from i)) (from + i)) ≡ splice xs to (run xs from (i + 1))
-moved xs from to n i a h k =
-    let m : i < length (drop from xs) = rw length-drop (omega arith) in
-    let l : length (run xs from i) ≡ i = length_run xs from i (omega arith) in
-    rw (get_d_splice_out xs to (run xs from i) (from + i) (λ p q. a (omega arith) (omega arith)), ← get_or-drop from xs i 0) (splice-turn xs to (drop from xs) i m)
-
 -- ---- the cut and the paste
 
 splice_sets : (xs : List ℕ) (a : ℕ) (ys : List ℕ) → splice xs a ys ≡ sets xs a ys
@@ -157,6 +136,19 @@ splice_sets xs a (y ∷ ys) = rw add-one (splice_sets (slice_set xs a y) (suc a)
 
 pub splice_eq : (xs : List ℕ) (a : ℕ) (ys : List ℕ) → a + length ys ≤ length xs → splice xs a ys ≡ take a xs ++ ys ++ drop (a + length ys) xs
 splice_eq xs a ys h = splice_sets xs a ys ∙ sets-eq ys xs a h
+
+-- ---- what std stores at once is one splice
+
+-- the k elements from a on, replaced by ys
+pub splice-put : (a k : ℕ) (xs ys : List ℕ) → length ys ≡ k → a + k ≤ length xs → put_mid a (a + k - a) xs ys ≡ splice xs a ys
+splice-put a k xs ys l h =
+    rw add-sub_cancel_left (put_mid-paste a k xs ys ys k refl refl (sym l) ∙ rw (← l, paste_all xs a ys (length ys) refl, splice_eq xs a ys (omega arith)) (sym (append_assoc (take a xs) ys (drop (a + length ys) xs))))
+
+-- the n elements from `from` on, copied to `to`
+pub splice-copy : (xs : List ℕ) (from to n : ℕ) → from + n ≤ length xs → to + n ≤ length xs → copy_within xs from (from + n) to ≡ splice xs to (run xs from n)
+splice-copy xs from to n h k =
+    let l : length (run xs from n) ≡ n = length_run xs from n h in
+    rw add-sub_cancel_left (sym (rw l at (splice_eq xs to (run xs from n) (omega arith))))
 
 -- ---- a part `&mut s[a..e]`: with ys in its place the whole is `put_mid a (e - a) xs ys`
 

@@ -1,19 +1,19 @@
-use Rattle.std.proofs.Common.{sym, ◌∙◌, rules, eq-eqb, ne_eqb}
+use Rattle.std.proofs.Common.{sym, ◌∙◌, eq-eqb, ne_eqb}
 use Rattle.octets.specs.Octets.{is}
 use Rattle.octets.specs.RunLaws.{every_turn, every_fails, every_end}
 use Rattle.octets.proofs.all.Goals as goal
 
-pub returns-then-s-i : goal.returns-then-s-i
-returns-then-s-i c =
+pub returns-then-b-v : goal.returns-then-b-v
+returns-then-b-v c =
     let a = c.args in
-    sym (every_fails (is a.v) a.s.now c.loop-i.i (search rules) (ne_eqb _ _ c.if-s-i.true)) ∙ c.loop-i.invariant.1
+    sym (every_fails (is a.v) a.s.now c.loop-b.b-index c.loop-b-test.true (ne_eqb _ _ c.if-b-v.true)) ∙ c.loop-b.invariant
 
-pub loop-i-preserved : goal.loop-i-preserved
-loop-i-preserved c =
+pub loop-b-preserved : goal.loop-b-preserved
+loop-b-preserved c =
     let a = c.args in
-    (search rules, sym (every_turn (is a.v) a.s.now c.loop-i.i (search rules) (eq-eqb _ _ c.if-s-i.false)) ∙ c.loop-i.invariant.1)
+    sym (every_turn (is a.v) a.s.now c.loop-b.b-index c.loop-b-test.true (eq-eqb _ _ c.if-b-v.false)) ∙ c.loop-b.invariant
 
 pub returns : goal.returns
 returns c =
     let a = c.args in
-    sym (every_end (is a.v) a.s.now c.loop-i.i c.loop-i-test.false) ∙ c.loop-i.invariant.1
+    sym (every_end (is a.v) a.s.now c.loop-b.b-index c.loop-b-test.false) ∙ c.loop-b.invariant

@@ -1,11 +1,13 @@
-use Rattle.std.proofs.Common.{sym, ◌∙◌, arith}
-use Rattle.octets.specs.RunLaws.{sum_turn, sum_end}
+use Rattle.std.proofs.Common.{sym, ◌∙◌}
+use Rattle.octets.specs.RunLaws.{words_turn, words_end, sum_of_chunks}
 use Rattle.octets.proofs.word_sum.Goals as goal
 
-pub loop-i-preserved : goal.loop-i-preserved
-loop-i-preserved c =
-    (omega arith, sym (sum_turn c.loop-i.sum c.args.s.now c.loop-i.i (omega arith) c.word.ensures c.wrapping_add_u32-sum.ensures.value) ∙ c.loop-i.invariant.1)
+pub loop-w-preserved : goal.loop-w-preserved
+loop-w-preserved c =
+    rw c.join_four-sum.ensures (sym (words_turn c.loop-w.sum c.as_chunks.result.0.now c.loop-w.w-index _ c.loop-w-test.true) ∙ c.loop-w.invariant)
 
 pub returns : goal.returns
 returns c =
-    sym (sum_end c.loop-i.sum c.args.s.now c.loop-i.i (omega arith)) ∙ c.loop-i.invariant.1
+    sym (words_end c.loop-w.sum c.as_chunks.result.0.now c.loop-w.w-index c.loop-w-test.false)
+    ∙ c.loop-w.invariant
+    ∙ rw c.as_chunks.ensures.front (sum_of_chunks c.args.from c.args.s.now)

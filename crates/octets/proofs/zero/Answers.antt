@@ -1,21 +1,13 @@
-use Rattle.std.proofs.Common.{◌≡◌, refl, ◌∙◌, arith, length-set}
-use Rattle.octets.specs.Octets.{splice}
-use Rattle.octets.specs.SpliceLaws.{splice_fill}
+-- `octets::zero` meets its contract: the part filled is the splice.
+use Rattle.std.proofs.Common.{◌∙◌, ◌≡◌, ap}
+use Rattle.std.proofs.lemmas.List.{length-replicate}
+use Rattle.octets.specs.Octets.{zeros}
+use Rattle.octets.specs.SpliceLaws.{splice-put, length_run}
+use native.Mathlib.Nat.{add-sub_cancel_left}
 use Rattle.octets.proofs.zero.Goals as goal
-
-pub loop-i-init : goal.loop-i-init
-unfolding splice
-loop-i-init c = (omega arith, refl, refl)
-
-pub loop-i-preserved : goal.loop-i-preserved
-loop-i-preserved c =
-    let h = c.loop-i.invariant in
-    (omega arith, rw h.1 (splice_fill _ _ 0 c.loop-i.i), simp length-set h.2)
-
-pub shape_of-dst : goal.shape_of-dst
-shape_of-dst c = c.loop-i.invariant.2
 
 pub returns : goal.returns
 returns c =
-    let e : c.loop-i.i ≡ c.args.n = omega arith in
-    c.loop-i.invariant.1 ∙ rw e refl
+    let n = c.args.n in
+    let e : c.fill.new.self ≡ zeros n = c.fill.ensures.after (λ y e. e) ∙ ap zeros (rw add-sub_cancel_left (length_run c.args.dst.now c.args.at n c.requires)) in
+    rw e (splice-put c.args.at n c.args.dst.now (zeros n) (length-replicate n 0) c.requires)
