@@ -1,10 +1,8 @@
 -- What decoding has found out on its way, and what it makes: the words of its contracts.
-use Rattle.std.specs.Prelude.{ℕ, ◌<◌, ◌≡◌, true, false, List, length, get_or}
+use Rattle.std.specs.Prelude.{ℕ, ◌<◌, ◌≡◌, true, List, length, get_or}
 use Rattle.schema.specs.Fields.{master_of}
 use Rattle.schema.specs.Rules.{is_path_slot, master_of_slot}
 use Rattle.schema.specs.Layout.{links_before}
-use Rattle.schema.specs.Decode.{empty_schema}
-use Rattle.schema.specs.declared.Decoded.{Decoded}
 use Rattle.decode.specs.declared.build.Links.{Links}
 
 pub record Counted (s : List ℕ) (q : ℕ) (l : Links) : Type 0 where
@@ -19,7 +17,3 @@ pub record PathAt (s : List ℕ) (i j : ℕ) : Type 0 where
   pub set : i < 8
   pub slot : j < 4
   pub leads : master_of s i j < 4
-
--- the answer to a schema that breaks a rule
-abbrev pub undecoded : Decoded
-undecoded = record { ok = false; schema = empty_schema }

@@ -6,12 +6,12 @@ ghost use Rattle.schema.specs.Fields.{sets_of, count_of, master_of};
 ghost use Rattle.schema.specs.Rules.{master_of_slot, form_rule};
 ghost use Rattle.schema.specs.Formed.{Formed};
 ghost use Rattle.schema.specs.Layout.{links_before, path_key_length, key_place, body_place, first_block};
-ghost use Rattle.schema.specs.Decode.{empty_path, empty_entry, path_from, decoded_of, full_path, full_entry};
-ghost use Rattle.decode.specs.Decoding.{Counted, PathAt, undecoded};
+ghost use Rattle.schema.specs.Decode.{empty_path, empty_entry, path_from, schema_in, full_path, full_entry};
+ghost use Rattle.decode.specs.Decoding.{Counted, PathAt};
 
 use rules::fields;
 use schema::layout::blocks_held;
-use schema::{Decoded, Entry, Path, Schema};
+use schema::{Entry, Path, Schema};
 use terms::{BlockNo, EntryNo};
 
 // The paths to each master, counted.
@@ -234,28 +234,13 @@ fn no_entry() -> Entry
     }
 }
 
-// The answer to a schema that breaks a rule.
-pub(crate) fn refused() -> Decoded
-    ensures { result ≡ undecoded }
-{
-    let entries = [no_entry(); 8];
-    let schema = Schema {
-        edition: 0,
-        masters: 0,
-        variables: 0,
-        blocks: 0,
-        entries,
-    };
-    Decoded { ok: false, schema }
-}
-
 // The sets laid out one after the other, unless a record is too long or all together take too many blocks: "L the record length, at
 // most 508", "T blocks, at most 4,096".
-fn laid_out(s: &[u8], l: Links) -> Decoded
+fn laid_out(s: &[u8], l: Links) -> Option<Schema>
     requires formed { Formed s.now }
     requires s_value { form_rule s.now ≡ true }
     requires counted { Counted s.now (4 * sets_of s.now) l }
-    ensures { result ≡ decoded_of s.now }
+    ensures { result ≡ schema_in s.now }
 {
     let sets = fields::sets(s);
     let mut entries = [no_entry(); 8];
@@ -264,29 +249,28 @@ fn laid_out(s: &[u8], l: Links) -> Decoded
     while i < sets {
         let e = set(s, i, l, first);
         if 508 < e.size {
-            return refused();
+            return None;
         }
         first += blocks_held(e);
         entries[i] = e;
         i += 1;
     }
     if 4096 < first {
-        return refused();
+        return None;
     }
-    let schema = Schema {
+    Some(Schema {
         edition: s[0],
         masters: s[1],
         variables: s[2],
         blocks: first,
         entries,
-    };
-    Decoded { ok: true, schema }
+    })
 }
 
 // What a schema says that keeps the form's rules.
-pub(crate) fn decoded(s: &[u8]) -> Decoded
+pub(crate) fn decoded(s: &[u8]) -> Option<Schema>
     requires { form_rule s.now ≡ true }
-    ensures { result ≡ decoded_of s.now }
+    ensures { result ≡ schema_in s.now }
 {
     let l = counted(s);
     laid_out(s, l)

@@ -2,18 +2,18 @@
 #![tactic(auto)]
 
 ghost use Rattle.std.specs.Prelude.{◌≡◌};
-ghost use Rattle.schema.specs.Decode.{decoded_of};
+ghost use Rattle.schema.specs.Decode.{schema_in};
 
-use schema::Decoded;
+use schema::Schema;
 
 mod build;
 
 // Decodes a schema buffer of any length: document 01's rules for the schema are judged, and what it says is given where it keeps them.
-pub fn decode(s: &[u8]) -> Decoded
-    ensures { result ≡ decoded_of s.now }
+pub fn decode(s: &[u8]) -> Option<Schema>
+    ensures { result ≡ schema_in s.now }
 {
     if !rules::form(s) {
-        return build::refused();
+        return None;
     }
     build::decoded(s)
 }

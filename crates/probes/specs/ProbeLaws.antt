@@ -1,6 +1,6 @@
 -- The ways through the C entries, in the words of what the code read.
-use Rattle.std.specs.Prelude.{ℕ, ◌≤◌, ◌<◌, ◌≡◌, true, false, List, leb, length}
-use Rattle.std.proofs.Math.Path.{refl, sym, ap}
+use Rattle.std.specs.Prelude.{ℕ, ◌≤◌, ◌<◌, ◌≡◌, Some, None, List, leb, length}
+use Rattle.std.proofs.Math.Path.{refl, ap}
 use Rattle.std.proofs.Common.{◌∙◌}
 use Rattle.std.proofs.Math.Bool.{and-false}
 use borrow.Author.Tests.{lt-ltb, le-ltb, le-leb, lt-leb, eq-eqb, ne_eqb}
@@ -9,48 +9,32 @@ use Rattle.blocks.specs.declared.Check.{Check}
 use Rattle.blocks.specs.Blocks.{check_of}
 use Rattle.schema.specs.declared.Entry.{Entry}
 use Rattle.schema.specs.declared.Schema.{Schema}
-use Rattle.schema.specs.declared.Decoded.{Decoded}
-use Rattle.schema.specs.Layout.{keeps_rules}
-use Rattle.schema.specs.Decode.{schema_of, entry_of, set_count, decoded_of}
+use Rattle.schema.specs.Decode.{schema_of, entry_of, set_count, schema_in}
 use Rattle.schema.specs.Place.{LiesIn, place_of}
 use Rattle.schema.proofs.PlaceLaws.{lies_most}
 use Rattle.schema.specs.Guarantee.{SchemaOk}
-use Rattle.schema.proofs.GuaranteeLaws.{guaranteed, lies}
+use Rattle.schema.proofs.GuaranteeLaws.{schema_in-some, schema_in-none, lies}
 use Rattle.probes.specs.Probes.{blocks_in, nowhere, place_in_set, place_under, place_in, sealed_alone, seal_alone, seal_answer}
 
 -- ---- a decoded schema
 
-module _ (s : List ℕ) {d : Decoded} (e : d ≡ decoded_of s) where
-  keeps : d.ok ≡ true → keeps_rules s ≡ true
-  unfolding decoded_of
-  keeps h = sym (ap (λ (x : Decoded). x.ok) e) ∙ h
-
-  breaks : d.ok ≡ false → keeps_rules s ≡ false
-  unfolding decoded_of
-  breaks h = sym (ap (λ (x : Decoded). x.ok) e) ∙ h
-
-  pub decoded_is : d.ok ≡ true → d.schema ≡ schema_of s
-  unfolding decoded_of
-  decoded_is h = ap (λ (x : Decoded). x.schema) e ∙ rw (keeps h) refl
-
-  pub decoded_good : d.ok ≡ true → SchemaOk d.schema
-  decoded_good h = rw (decoded_is h) (guaranteed s (keeps h))
-
-  pub blocks-some : d.ok ≡ true → d.schema.blocks ≡ blocks_in s
+module _ (s : List ℕ) {t : Schema} (e : schema_in s ≡ Some t) where
+  pub blocks-some : t.blocks ≡ blocks_in s
   unfolding blocks_in schema_of
-  blocks-some h = ap (λ (t : Schema). t.blocks) (decoded_is h) ∙ rw (keeps h) refl
+  blocks-some = let k = schema_in-some s e in rw (k.1, k.0) refl
 
-  pub blocks-none : d.ok ≡ false → 0 ≡ blocks_in s
+  pub place-some : (i r : ℕ) → place_under t i r ≡ place_in s i r
+  unfolding place_in
+  place-some i r = let k = schema_in-some s e in rw (k.1, k.0) refl
+
+module _ (s : List ℕ) (e : schema_in s ≡ None) where
+  pub blocks-none : 0 ≡ blocks_in s
   unfolding blocks_in
-  blocks-none h = rw (breaks h) refl
+  blocks-none = rw (schema_in-none s e) refl
 
-  pub place-some : (i r : ℕ) → d.ok ≡ true → place_under d.schema i r ≡ place_in s i r
+  pub place_none : (i r : ℕ) → nowhere ≡ place_in s i r
   unfolding place_in
-  place-some i r h = rw (decoded_is h, keeps h) refl
-
-  pub place_none : (i r : ℕ) → d.ok ≡ false → nowhere ≡ place_in s i r
-  unfolding place_in
-  place_none i r h = rw (breaks h) refl
+  place_none i r = rw (schema_in-none s e) refl
 
 -- ---- a record of a set, a set of a schema
 

@@ -20,11 +20,10 @@ const NOWHERE: u64 = 18446744073709551615;
 pub extern "C" fn yarugota_schema_blocks(schema: &[u8]) -> u32
     ensures { result ≡ blocks_in schema.now }
 {
-    let d = decode::decode(schema);
-    if d.ok {
-        return d.schema.blocks;
+    match decode::decode(schema) {
+        Some(t) => t.blocks,
+        None => 0,
     }
-    0
 }
 
 fn place_in_set(e: Entry, number: u32) -> u64
@@ -44,8 +43,7 @@ fn place_under(t: Schema, entry: u32, number: u32) -> u64
     requires { SchemaOk t }
     ensures { result ≡ place_under t entry number }
 {
-    let sets = (t.masters as u32) + (t.variables as u32);
-    if sets <= entry {
+    if u32::from(layout::sets(t)) <= entry {
         return NOWHERE;
     }
     let e = layout::entry_of(t, EntryNo(entry as u8));
@@ -57,12 +55,10 @@ fn place_under(t: Schema, entry: u32, number: u32) -> u64
 pub extern "C" fn yarugota_record_place(schema: &[u8], entry: u32, number: u32) -> u64
     ensures { result ≡ place_in schema.now entry number }
 {
-    let d = decode::decode(schema);
-    if d.ok {
-        let t = d.schema;
-        return place_under(t, entry, number);
+    match decode::decode(schema) {
+        Some(t) => place_under(t, entry, number),
+        None => NOWHERE,
     }
-    NOWHERE
 }
 
 // Is this one block whose check is true for this number?

@@ -1,6 +1,6 @@
 -- A schema that keeps the rules guarantees what Guarantee says: the decoded value's fields are the definitions of Fields and Layout
 -- (set_is, path_is), and RuleFacts and LayoutLaws have what is true of those.
-use Rattle.std.specs.Prelude.{ℕ, ◌+◌, ◌*◌, ◌-◌, ◌/◌, ◌≤◌, ◌<◌, ◌≡◌, refl, ◌⊎◌, true, List, [], ◌∷◌}
+use Rattle.std.specs.Prelude.{ℕ, ◌+◌, ◌*◌, ◌-◌, ◌/◌, ◌≤◌, ◌<◌, ◌≡◌, refl, ◌⊎◌, Bool, true, false, cond, Some, None, List, [], ◌∷◌}
 use Rattle.std.proofs.Common.{sym, ap, ◌∙◌, inl, inr, arith, lt-ltb}
 use Rattle.octets.specs.Octets.{Apart, byte_at, word_at, word_bytes}
 use Rattle.octets.specs.SpliceLaws.{drop-one, drop-four}
@@ -11,7 +11,7 @@ use Rattle.octets.specs.TestLaws.{never_both}
 use Rattle.schema.specs.declared.Schema.{Schema}
 use Rattle.schema.specs.Fields.{masters_of, sets_of, entry_at, slot_at, name_of, count_of, records_of, letters_of, master_of}
 use Rattle.schema.specs.Layout.{link_place, per_block, first_block, keeps_rules}
-use Rattle.schema.specs.Decode.{no_path, no_entry, entry_of, path_of, set_count, full_path, path_from, full_entry, entry_from, schema_of, decoded_of}
+use Rattle.schema.specs.Decode.{no_path, no_entry, entry_of, path_of, set_count, full_path, path_from, full_entry, entry_from, schema_of, schema_in}
 use Rattle.schema.specs.Guarantee.{SetOk, MasterOk, VariableOk, PathOk, IsPathOf, SchemaOk}
 use Rattle.schema.proofs.PlaceLaws.{order?, div_mono, place_in_block, records-apart}
 use Rattle.schema.specs.Place.{InSet, block_of, place_of, LiesIn}
@@ -163,10 +163,26 @@ module _ (s : List ℕ) (kept : keeps_rules s ≡ true) where
 
 -- ---- in the words of later rooms
 
--- what decoding calls a schema
-pub decoded_ok : (s : List ℕ) → (decoded_of s).ok ≡ true → SchemaOk (decoded_of s).schema
-unfolding decoded_of
-decoded_ok s h = rw h (guaranteed s h)
+-- what decoding answers
+some_kept : (b : Bool) (u : Schema) {t : Schema} → cond b (Some u) None ≡ Some t → (b ≡ true) × (t ≡ u)
+some_kept true u h = (refl, cc)
+some_kept false u h = cc
+
+none_kept : (b : Bool) (u : Schema) → cond b (Some u) None ≡ None → b ≡ false
+none_kept true u h = cc
+none_kept false u h = refl
+
+pub schema_in-some : (s : List ℕ) {t : Schema} → schema_in s ≡ Some t → (keeps_rules s ≡ true) × (t ≡ schema_of s)
+unfolding schema_in
+schema_in-some s h = some_kept (keeps_rules s) (schema_of s) h
+
+pub schema_in-none : (s : List ℕ) → schema_in s ≡ None → keeps_rules s ≡ false
+unfolding schema_in
+schema_in-none s h = none_kept (keeps_rules s) (schema_of s) h
+
+-- and so what decoding calls a schema
+pub decoded_ok : (s : List ℕ) {t : Schema} → schema_in s ≡ Some t → SchemaOk t
+decoded_ok s h = let k = schema_in-some s h in rw k.1 (guaranteed s k.0)
 
 -- every set lies in a base of T blocks
 pub lies : {t : Schema} {n : ℕ} (i : ℕ) → SchemaOk t → i < set_count t → n ≡ 512 * t.blocks → LiesIn (entry_of t i) n

@@ -1,5 +1,5 @@
 -- What a schema's bytes say, as the value that the code keeps: each field is a definition of Fields or Layout.
-use Rattle.std.specs.Prelude.{ℕ, ◌+◌, cond, List, [], ◌∷◌, ltb, get_or, take, replicate}
+use Rattle.std.specs.Prelude.{ℕ, ◌+◌, cond, List, Option, Some, None, [], ◌∷◌, ltb, get_or, take, replicate}
 use Rattle.octets.specs.Octets.{byte_at, word_at}
 use Rattle.octets.specs.Below.{upto}
 use Rattle.schema.specs.Fields.{edition_of, masters_of, variables_of, sets_of, entry_at, slot_at, kind_of, count_of, room_of, records_of, key_length_of, master_of, is_path}
@@ -7,9 +7,8 @@ use Rattle.schema.specs.Layout.{path_key_length, key_place, link_place, body_pla
 use Rattle.schema.specs.declared.Path.{Path}
 use Rattle.schema.specs.declared.Entry.{Entry}
 use Rattle.schema.specs.declared.Schema.{Schema}
-use Rattle.schema.specs.declared.Decoded.{Decoded}
 
--- a slot, an entry and a schema with nothing in them
+-- a slot and an entry with nothing in them
 abbrev pub empty_path : Path
 empty_path = record { letters = 0 ∷ 0 ∷ []; master = record { 0 = 0 }; len = 0; at = 0; link = 0 }
 
@@ -29,9 +28,6 @@ empty_entry =
       first = record { 0 = 0 };
       paths = replicate 4 empty_path;
     }
-
-abbrev pub empty_schema : Schema
-empty_schema = record { edition = 0; masters = 0; variables = 0; blocks = 0; entries = replicate 8 empty_entry }
 
 -- what the logic reads past an array's end: zeros, and no elements
 abbrev pub no_path : Path
@@ -114,9 +110,9 @@ schema_of s =
       entries = upto (entry_from s) 8;
     }
 
--- the answer of decoding, on every buffer of every length
-unfoldable pub decoded_of : List ℕ → Decoded
-decoded_of s = record { ok = keeps_rules s; schema = cond (keeps_rules s) (schema_of s) empty_schema }
+-- the answer of decoding, on every buffer of every length: what the schema says, where it keeps every rule
+unfoldable pub schema_in : List ℕ → Option Schema
+schema_in s = cond (keeps_rules s) (Some (schema_of s)) None
 
 -- the set of path k's masters
 abbrev pub masters_on : Schema → Entry → ℕ → Entry

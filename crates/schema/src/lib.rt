@@ -68,10 +68,3 @@ pub struct Stretch {
     pub at: u32, // where the first begins
     pub count: u32, // how many there are
 }
-
-// The answer of decoding: whether the schema keeps every rule, and if so what it says.
-#[derive(Clone, Copy)]
-pub struct Decoded {
-    pub ok: bool,
-    pub schema: Schema,
-}

@@ -99,12 +99,11 @@ pub fn call(
 ) -> Answer
     ensures { IsOutcome (call_of op.now set.now reference.0 path.now key.now area.old schema.now base.old) (record { status = result.status; reference = result.reference.0; area = area.new; base = base.new }) }
 {
-    let d = decode::decode(schema);
-    if !d.ok {
+    let Some(t) = decode::decode(schema) else {
         return ended(Status::Schm, reference);
-    }
+    };
     let o = Operation::of(op);
-    under(d.schema, o, set, reference, path, key, area, base)
+    under(t, o, set, reference, path, key, area, base)
 }
 
 // Status and reference as the two halves of one word, for C.

@@ -15,7 +15,7 @@ set-e-requires c =
 
 pub returns-then-e-gt508 : goal.returns-then-e-gt508
 returns-then-e-gt508 c =
-    too_long c.args.s.now c.loop-i.i c.set-e.ensures (rw c.sets-sets.ensures at c.loop-i-test.true) (omega arith) c.refused.ensures
+    too_long c.args.s.now c.loop-i.i c.set-e.ensures (rw c.sets-sets.ensures at c.loop-i-test.true) (omega arith)
 
 pub blocks_held-first-requires : goal.blocks_held-first-requires
 blocks_held-first-requires c =
@@ -30,7 +30,7 @@ returns-then-first-gt4096 c =
     let s = c.args.s.now in
     let e : c.loop-i.i ≡ sets_of s = omega arith in
     let d : LaidOut s (sets_of s) c.loop-i.first c.loop-i.entries = rw e at c.loop-i.invariant.2 in
-    too_many s d (omega arith) c.refused-then-first-gt4096.ensures
+    too_many s d (omega arith)
 
 pub returns : goal.returns
 returns c =
