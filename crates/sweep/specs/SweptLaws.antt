@@ -1,5 +1,5 @@
 -- RDNXT, step by step down the ladder: the set, the forms of its parameters, the record that it gives.
-use Rattle.std.specs.Prelude.{ℕ, ◌*◌, ◌≤◌, ◌≡◌, Bool, true, false, cond, not, List, [], eqb, leb, ltb, length}
+use Rattle.std.specs.Prelude.{ℕ, ◌*◌, ◌≤◌, ◌≡◌, Bool, true, false, cond, not, List, [], eqb, leb, ltb, length, Option, Some, None, IfSome, Ok, Err}
 use Rattle.std.proofs.Math.Path.{refl}
 use Rattle.std.proofs.Common.{sym, ◌∙◌, arith, leb-true, ltb-true, ltb-false}
 use Rattle.std.proofs.lemmas.Bool.{not-false}
@@ -8,8 +8,12 @@ use Rattle.octets.specs.Text.{text}
 use Rattle.terms.specs.declared.Status.{Status}
 use Rattle.terms.specs.declared.Status.TheVariants.{Done, Fntf, Area, Ivrp}
 use Rattle.terms.specs.declared.Operation.TheVariants.{Rdnxt}
-use Rattle.terms.specs.Laws.{refused-done, one_passes}
+use Rattle.terms.specs.declared.Refusal.{Refusal}
+use Rattle.terms.specs.declared.Refusal.TheVariants as refusal
+use Rattle.terms.specs.Laws.{one_passes}
+use Rattle.terms.specs.Status.{status_by}
 use Rattle.terms.specs.Operation.{operation_of}
+use Rattle.terms.specs.declared.RecordNo.{RecordNo}
 use Rattle.schema.specs.declared.Entry.{Entry}
 use Rattle.schema.specs.declared.Schema.{Schema}
 use Rattle.schema.specs.Decode.{entry_of, set_count}
@@ -18,6 +22,8 @@ use Rattle.scan.specs.Scan.{next_live}
 use Rattle.calls.proofs.SceneLaws.{entry_here}
 use Rattle.calls.specs.Call.{Call, call_of}
 use Rattle.calls.specs.Scene.{Scene, scene_under}
+use Rattle.schema.specs.Place.{InSet}
+use Rattle.schema.specs.Numbers.{record_up_to}
 use Rattle.schema.specs.Naming.{set_named, link_of}
 use Rattle.schema.proofs.NamingLaws.{set_named_lem}
 use Rattle.calls.specs.Ladder.{wrong_kind, place_rungs, form_rungs, seek_rungs, rest_rungs, refusal}
@@ -28,12 +34,11 @@ use Rattle.forms.specs.Form.{form_status}
 use Rattle.forms.specs.FormLaws.{form-tests, form-link, form-on-unasked}
 use Rattle.ends.specs.AsksLaws.{operation_letters, someone_asks}
 use Rattle.ends.specs.FormFacts.{area-length}
-use Rattle.ends.specs.Ends.{Ends, gave}
+use Rattle.ends.specs.Ends.{Ends, number_of, gave}
 use Rattle.ends.specs.EndsLaws.{gave-answers}
-use Rattle.ends.specs.Asks.{Asks, placed_outcome}
+use Rattle.ends.specs.Asks.{Asks, placed_status, placed_outcome}
 use Rattle.records.specs.InBase.{Laid, IsSetOf}
 use Rattle.records.specs.Fields.{Fields}
-use Rattle.sweep.specs.declared.AnySet.{AnySet}
 use Rattle.sweep.specs.Swept.{swept_at, formed_any, Sweeps, SweptOn}
 
 -- ---- the ladder
@@ -88,15 +93,23 @@ module _ (t : Schema) (n : List ℕ) (r : ℕ) (key area : List ℕ) where
   form_so : (c : Call) → Asks c Rdnxt n r key area c.base → refusal (scene_under t c) c form_rungs ≡ form_status Rdnxt e 0 0 e.key r key area
   form_so c h = rw (← h.name, ← h.reference, ← h.key, ← h.area) (form-sweep t c h.operation)
 
-  pub sweeps-set : {p q : AnySet} → Laid t (512 * t.blocks) → q ≡ swept_at t (set_named t n) → p ≡ formed_any q r key area → Sweeps t n r key area p
-  sweeps-set w g h = rw (h, g) (go (ltb i (set_count t)) refl)
+  -- no set has the name
+  pub sweep_unplaced : {why : Refusal} → swept_at t i ≡ Err why → (c : Call) → Asks c Rdnxt n r key area c.base → status_by why ≡ placed_status t c
+  sweep_unplaced h c a = go (ltb i (set_count t)) refl h
     where
-      go : (f : Bool) → ltb i (set_count t) ≡ f
-          → Sweeps t n r key area (formed_any (cond f (record { status = Done; entry = e }) (record { status = Fntf; entry = entry_of t 0 })) r key area)
-      go false f =
-          record { status = λ c h. rw (first_one c h, f) refl; on-set = refused-done {u = Fntf} refl (omega arith); known = refused-done {u = Fntf} refl (omega arith) }
-      go true f =
-          record {
+      go : (f : Bool) → ltb i (set_count t) ≡ f → {why : Refusal} → cond f (Ok e) (Err refusal.Fntf) ≡ Err why → status_by why ≡ placed_status t c
+      go false f {why} h = let w : why ≡ refusal.Fntf = cc in rw (w, first_one c a, f) refl
+      go true f h = absurd cc
+
+  pub sweeps-set : {u : Entry} {s : Status} → Laid t (512 * t.blocks) → swept_at t i ≡ Ok u → s ≡ formed_any u r key area → Sweeps t n r key area u s
+  sweeps-set w h g = go (ltb i (set_count t)) refl h g
+    where
+      go : (f : Bool) → ltb i (set_count t) ≡ f → {u : Entry} {s : Status} → cond f (Ok e) (Err refusal.Fntf) ≡ Ok u → s ≡ formed_any u r key area → Sweeps t n r key area u s
+      go false f h g = absurd cc
+      go true f {u} {s} h g =
+          let k : u ≡ e = cc in
+          rw (g, k)
+          (record {
             status = λ c h. rw (first_one c h, f) (sym (form_so c h));
             on-set = λ d c h. entry_here t c ∙ (rw h.name refl);
             known = λ d. record {
@@ -104,25 +117,33 @@ module _ (t : Schema) (n : List ℕ) (r : ℕ) (key area : List ℕ) where
               reference = reference-within e 0 0 e.key r key area d;
               area = area-length Rdnxt e 0 0 e.key r key area d refl;
             };
-          }
+          })
 
 -- a set that is there has its fields
-pub swept-fields : (t : Schema) (i : ℕ) {q : AnySet} {n : ℕ} → Laid t n → q ≡ swept_at t i → q.status ≡ Done → Fields q.entry
-swept-fields t i w h = rw h (go (ltb i (set_count t)) refl)
+pub swept-fields : (t : Schema) (i : ℕ) {u : Entry} {n : ℕ} → Laid t n → swept_at t i ≡ Ok u → Fields u
+swept-fields t i w h = go (ltb i (set_count t)) refl h
   where
-    go : (f : Bool) → ltb i (set_count t) ≡ f
-        → (let q : AnySet = cond f (record { status = Done; entry = entry_of t i }) (record { status = Fntf; entry = entry_of t 0 }) in q.status ≡ Done → Fields q.entry)
-    go false f = refused-done {u = Fntf} refl (omega arith)
-    go true f = λ d. w.fields i (ltb-true _ _ f)
+    go : (f : Bool) → ltb i (set_count t) ≡ f → {u : Entry} → cond f (Ok (entry_of t i)) (Err refusal.Fntf) ≡ Ok u → Fields u
+    go false f h = absurd cc
+    go true f {u} h = let k : u ≡ entry_of t i = cc in rw k (w.fields i (ltb-true _ _ f))
 
 -- ---- the record that it gives
 
-pub none_within : (e : Entry) (r : ℕ) → or_none e r ≤ e.records
-none_within e r = go (ltb e.records r) refl
-  where
-    go : (b : Bool) → ltb e.records r ≡ b → or_none e r ≤ e.records
-    go true h = rw h (omega arith)
-    go false h = rw h (ltb-false e.records r h)
+-- the answer's number, and that it is one of the set's
+module _ (e : Entry) (r : ℕ) where
+  pub given-number : {o : Option RecordNo} → o ≡ record_up_to e.records r → number_of o ≡ or_none e r
+  given-number h = rw h (go (ltb e.records r))
+    where
+      go : (t : Bool) → number_of (cond t None (Some (record { 0 = r }))) ≡ cond t 0 r
+      go true = refl
+      go false = refl
+
+  pub given-within : {o : Option RecordNo} → 1 ≤ r → o ≡ record_up_to e.records r → IfSome o (λ (q : RecordNo). InSet e q.0)
+  given-within l h = rw h (go (ltb e.records r) refl)
+    where
+      go : (t : Bool) → ltb e.records r ≡ t → IfSome (cond t None (Some (record { 0 = r }))) (λ (q : RecordNo). InSet e q.0)
+      go true w = tt
+      go false w = (l, ltb-false e.records r w)
 
 module _ (e : Entry) (r : ℕ) (area b : List ℕ) where
   sweep-gives : (x : Scene) (c : Call) → x.operation ≡ Rdnxt → x.entry ≡ e → c.reference ≡ r → c.base ≡ b → c.area ≡ area

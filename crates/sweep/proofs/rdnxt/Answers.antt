@@ -1,21 +1,18 @@
-use mathlib.Core.Path.{ap, ◌∙◌}
+use Prim.Native.Nat.{◌+◌, ◌-◌}
 use native.Mathlib.Omega.{arith}
+use Rattle.octets.specs.BelowLaws.{lowest_from_ge}
+use Rattle.records.specs.Records.{is_live}
 use Rattle.records.proofs.InBaseLaws.{set_in_lem}
-use Rattle.calls.specs.Reply.{or_none}
-use Rattle.sweep.specs.SweptLaws.{none_within, sweep-ends}
+use Rattle.sweep.specs.SweptLaws.{given-number, given-within, sweep-ends}
 use Rattle.sweep.proofs.rdnxt.Goals as goal
 
-pub next_live-next-requires : goal.next_live-next-requires
-next_live-next-requires c =
-    let i = set_in_lem c.requires.set.set in
-    record { lies_in = i.lies; le_size = omega (arith, i.head); from_le_records = c.requires.reference_le_records }
+pub next_live-requires-clause-le_size : goal.next_live-requires-clause-le_size
+next_live-requires-clause-le_size c = omega (arith, (set_in_lem c.requires.set.set).head)
 
-pub give-requires : goal.give-requires
-give-requires c =
-    let i = set_in_lem c.requires.set.set in
-    record { lies_in = i.lies; fields = i.fields; r_le_records = rw c.or_none.ensures (none_within c.args.e _); area_len = c.requires.area_len }
+pub give-requires-clause-in_set : goal.give-requires-clause-in_set
+give-requires-clause-in_set c =
+    let a = c.args in
+    given-within a.e _ (omega (arith, lowest_from_ge (is_live a.base.now a.e) (a.e.records - a.reference.0) (a.reference.0 + 1))) c.next_live.ensures
 
 pub returns : goal.returns
-returns c =
-    let e = c.args.e in
-    sweep-ends e _ _ _ _ (c.or_none.ensures ∙ ap (or_none e) c.next_live-next.ensures) c.give.ensures
+returns c = sweep-ends c.args.e _ _ _ _ (given-number c.args.e _ c.next_live.ensures) c.give.ensures
