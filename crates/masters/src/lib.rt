@@ -5,8 +5,9 @@ use terms::RecordNo;
 
 pub mod walk;
 
-// What the search for a key finds.
-#[derive(Clone, Copy)]
+// What the search for a key finds. Kept: it has three answers, which the definitions of the search name; `walk::master` gives them as a
+// Result.
+#[derive(Clone, Copy, PartialEq, Eq)]
 pub enum Found {
     At(RecordNo),
     Missing,

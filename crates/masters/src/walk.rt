@@ -5,81 +5,18 @@ ghost use Rattle.terms.specs.Terms.{key_of};
 ghost use Rattle.schema.specs.Place.{InSet, LiesIn};
 ghost use Rattle.schema.specs.Guarantee.{MasterOk};
 ghost use Rattle.masters.specs.Find.{own_home, held_by_own, seek, find, master_of};
-ghost use Rattle.masters.specs.Walks.{decide_of, step_of, last_from, last_sought};
+ghost use Rattle.masters.specs.Walks.{last_from, last_sought};
 
 use super::Found;
 use records::fields::{is_live, key_in, key_is, root_next};
 use schema::Entry;
 use terms::{Key, RecordNo, Refusal};
 
-// Where the walk stands: the pointer that it came by, a plain word until it is tested against R, and the records visited before it.
-#[derive(Clone, Copy)]
-pub struct Walk {
-    pub at: u32,
-    pub visited: u32,
-}
-
-// What a step of the walk meets.
-#[derive(Clone, Copy)]
-pub enum Step {
-    Found(RecordNo),
-    Absent,
-    Damaged,
-    Next(Walk),
-}
-
 // What the search found, and the record where it ends: behind that one a synonym is linked, so the chain is walked once.
 #[derive(Clone, Copy)]
 pub struct Sought {
     pub found: Found,
     pub last: RecordNo,
-}
-
-impl Walk {
-    // What a step does, from what it read of the record: whether it is live, whether it has the key, and its ROOT next.
-    fn decide(self, live: bool, same: bool, next: u32) -> Step
-        requires { self.visited < 65535 }
-        ensures { result ≡ decide_of self live same next }
-    {
-        let at = self.at;
-        if !live {
-            return Step::Damaged;
-        }
-        if same {
-            return Step::Found(RecordNo(at));
-        }
-        if next == 0 {
-            return Step::Absent;
-        }
-        Step::Next(Walk {
-            at: next,
-            visited: self.visited + 1,
-        })
-    }
-
-    // One step: the record is read once the pointer is a record of the set and fewer than R are visited.
-    pub fn step(self, base: &[u8], e: Entry, k: Key) -> Step
-        requires lies_in { LiesIn e (length base.now) }
-        requires master_ok { MasterOk e }
-        requires len_value { k.len ≡ e.key }
-        ensures { result ≡ step_of base.now e (key_of k) self }
-    {
-        let at = self.at;
-        if e.records <= self.visited {
-            return Step::Damaged;
-        }
-        if at == 0 {
-            return Step::Damaged;
-        }
-        if e.records < at {
-            return Step::Damaged;
-        }
-        let r = RecordNo(at);
-        let live = is_live(base, e, r);
-        let same = key_is(base, e, r, 12, k);
-        let next = root_next(base, e, r);
-        self.decide(live, same, next)
-    }
 }
 
 // The home of the key that the record holds.
@@ -89,8 +26,7 @@ pub fn own_home(base: &[u8], e: Entry, r: RecordNo) -> RecordNo
     requires in_set { InSet e r.0 }
     ensures { result.0 ≡ own_home base.now e r.0 }
 {
-    let key = key_in(base, e, r, 12, e.key as usize);
-    key.home(e.records)
+    key_in(base, e, r, 12, usize::from(e.key)).home(e.records)
 }
 
 // Is the record live, and at its own home?
@@ -100,9 +36,7 @@ pub fn held_by_own(base: &[u8], e: Entry, h: RecordNo) -> bool
     requires in_set { InSet e h.0 }
     ensures { result ≡ held_by_own base.now e h.0 }
 {
-    let live = is_live(base, e, h);
-    let own = own_home(base, e, h);
-    live & (own.0 == h.0)
+    is_live(base, e, h) && own_home(base, e, h) == h
 }
 
 // The walk from a home that is held by one of its own. Of a key that is missing `last` is the end of the chain.
@@ -114,34 +48,33 @@ fn seek_from(base: &[u8], e: Entry, k: Key, h: RecordNo) -> Sought
     ensures found_value { result.found ≡ seek e.records base.now e (key_of k) h.0 }
     ensures last_value { result.last.0 ≡ last_from result.found base.now e h.0 }
 {
-    let mut w = Walk {
-        at: h.0,
-        visited: 0,
-    };
-    loop {
-        match w.step(base, e, k) {
-            Step::Found(r) => {
-                return Sought {
-                    found: Found::At(r),
-                    last: h,
-                };
-            }
-            Step::Absent => {
-                return Sought {
-                    found: Found::Missing,
-                    last: RecordNo(w.at),
-                };
-            }
-            Step::Damaged => {
-                return Sought {
-                    found: Found::Damaged,
-                    last: h,
-                };
-            }
-            Step::Next(n) => {
-                w = n;
-            }
+    let mut at = h.0;
+    for _ in 0..e.records {
+        if at == 0 || e.records < at {
+            break;
         }
+        let r = RecordNo(at);
+        if !is_live(base, e, r) {
+            break;
+        }
+        if key_is(base, e, r, 12, k) {
+            return Sought {
+                found: Found::At(r),
+                last: h,
+            };
+        }
+        let next = root_next(base, e, r);
+        if next == 0 {
+            return Sought {
+                found: Found::Missing,
+                last: r,
+            };
+        }
+        at = next;
+    }
+    Sought {
+        found: Found::Damaged,
+        last: h,
     }
 }
 

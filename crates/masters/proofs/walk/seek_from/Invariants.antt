@@ -1,15 +1,11 @@
 -- `masters::walk::seek_from` meets its contract. The invariant: from where the walk stands there is left to find what the whole search
--- finds, and the chain ends where it ended from the home. The measure: what may still be visited. Assumes nothing.
-use Prim.Native.Nat.{◌-◌, ◌≤◌}
-use mathlib.Core.Path.{◌≡◌}
+-- finds, and the chain ends where it ended from the home. Assumes nothing.
+use Rattle.std.proofs.Common.{◌≡◌, ◌-◌}
 use Rattle.terms.specs.Terms.{key_of}
 use Rattle.masters.specs.Find.{seek, tail_from}
-use Rattle.masters.proofs.WalkLaws.{seek_on, tail_on}
 use Rattle.masters.proofs.walk.seek_from.Given as goal
 
-abbrev pub invariant-loop-r : goal.invariant-loop-r
-invariant-loop-r l =
-    (l.w.visited ≤ l.e.records) × (seek_on l.base l.e (key_of l.k) l.w ≡ seek l.e.records l.base l.e (key_of l.k) l.h.0) × (tail_on l.base l.e l.w ≡ tail_from l.e.records l.base l.e l.h.0)
-
-abbrev pub decreases-loop-r : goal.decreases-loop-r
-decreases-loop-r l = l.e.records - l.w.visited
+abbrev pub invariant-loop : goal.invariant-loop
+invariant-loop l =
+    (seek (l.end - l.counter) l.base l.e (key_of l.k) l.at ≡ seek l.e.records l.base l.e (key_of l.k) l.h.0)
+    × (tail_from (l.end - l.counter) l.base l.e l.at ≡ tail_from l.e.records l.base l.e l.h.0)
