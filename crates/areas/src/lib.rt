@@ -9,7 +9,8 @@ ghost use Rattle.records.specs.Areas.{is_master, area_key_place, area_keys, area
 ghost use Rattle.records.specs.Fields.{Fields};
 
 use records::Link;
-use schema::layout::{path_of, place_of, record_of};
+use records::held::Record;
+use schema::layout::{path_of, place_of};
 use schema::{Entry, Path};
 use terms::RecordNo;
 
@@ -73,30 +74,26 @@ pub fn put_body(base: &mut [u8], e: Entry, r: RecordNo, area: &[u8])
 }
 
 // A master's key and D bytes, read into the area.
-fn read_master(base: &[u8], e: Entry, r: RecordNo, area: &mut [u8])
-    requires in_set { InSet e r.0 }
-    requires lies_in { LiesIn e (length base.now) }
-    requires fields { Fields e }
-    requires area_len { length area.old ≡ area_length e }
-    requires kind_value { e.kind ≡ 1 }
-    ensures { area.new ≡ area_of base.now e r.0 }
+fn read_master(record: &Record, area: &mut [u8])
+    requires area_len { length area.old ≡ area_length record.now.entry.now }
+    requires kind_value { record.now.entry.now.kind ≡ 1 }
+    ensures { area.new ≡ area_of record.now.base.now record.now.entry.now record.now.number.0 }
 {
-    let part = record_of(base, e, r);
+    let e = record.entry;
+    let part = record.bytes();
     let len = e.key as usize;
     copy_part(area, 0, part, 12, len);
     copy_part(area, len, part, e.body as usize, e.room as usize);
 }
 
 // A variable record's keys in path order and its D bytes, read into the area.
-fn read_variable(base: &[u8], e: Entry, r: RecordNo, area: &mut [u8])
-    requires in_set { InSet e r.0 }
-    requires lies_in { LiesIn e (length base.now) }
-    requires fields { Fields e }
-    requires area_len { length area.old ≡ area_length e }
-    requires e_value { is_master e ≡ false }
-    ensures { area.new ≡ area_of base.now e r.0 }
+fn read_variable(record: &Record, area: &mut [u8])
+    requires area_len { length area.old ≡ area_length record.now.entry.now }
+    requires e_value { is_master record.now.entry.now ≡ false }
+    ensures { area.new ≡ area_of record.now.base.now record.now.entry.now record.now.number.0 }
 {
-    let part = record_of(base, e, r);
+    let e = *record.entry;
+    let part = record.bytes();
     let mut at: usize = 0;
     for j in 0..e.count as usize {
         let p = path_of(e, j);
@@ -106,19 +103,16 @@ fn read_variable(base: &[u8], e: Entry, r: RecordNo, area: &mut [u8])
     copy_part(area, at, part, e.body as usize, e.room as usize);
 }
 
-// A record read into an area of the set.
-pub fn read_area(base: &[u8], e: Entry, r: RecordNo, area: &mut [u8])
-    requires in_set { InSet e r.0 }
-    requires lies_in { LiesIn e (length base.now) }
-    requires fields { Fields e }
-    requires area_len { length area.old ≡ area_length e }
-    ensures { area.new ≡ area_of base.now e r.0 }
+// A record read into an area of its set.
+pub fn read_area(record: &Record, area: &mut [u8])
+    requires { length area.old ≡ area_length record.now.entry.now }
+    ensures { area.new ≡ area_of record.now.base.now record.now.entry.now record.now.number.0 }
 {
-    if e.kind == 1 {
-        read_master(base, e, r, area);
+    if record.entry.kind == 1 {
+        read_master(record, area);
         return;
     }
-    read_variable(base, e, r, area);
+    read_variable(record, area);
 }
 
 // The bytes of a new master, field by field: it has no points yet, so every first and last is 0.

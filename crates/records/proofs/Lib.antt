@@ -8,3 +8,4 @@ pub mod KindLaws
 pub mod AreaLaws
 pub mod NewLaws
 pub mod InBaseLaws
+pub mod HeldLaws

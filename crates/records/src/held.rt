@@ -3,7 +3,8 @@
 ghost use Rattle.std.specs.Prelude.{◌≡◌, ◌+◌, ◌≤◌, length};
 ghost use Rattle.octets.specs.Octets.{run, word_at, same_bytes};
 ghost use Rattle.terms.specs.Terms.{key_of, key_from};
-ghost use Rattle.schema.specs.Place.{InSet, place_of, record_of};
+ghost use Rattle.schema.specs.Place.{InSet, LiesIn, place_of, record_of};
+ghost use Rattle.records.specs.Fields.{Fields};
 ghost use Rattle.records.specs.InBase.{SetIn};
 ghost use Rattle.records.specs.Records.{state_of, is_live, root_next, root_prior, first_on, last_on, prior_on, next_on};
 
@@ -27,6 +28,15 @@ pub struct Record<'a> {
 }
 
 impl<'a> Set<'a> {
+    // The set of an entry, whose records lie in the data base.
+    pub fn of(base: &'a [u8], entry: &'a Entry) -> Set<'a>
+        requires lies_in { LiesIn entry.now (length base.now) }
+        requires fields { Fields entry.now }
+        ensures { (result.base.now ≡ base.now) × (result.entry.now ≡ entry.now) }
+    {
+        Set { base, entry }
+    }
+
     // The record of a number.
     pub fn record(&self, r: RecordNo) -> Record<'a>
         requires { InSet self.now.entry.now r.0 }
