@@ -13,6 +13,7 @@ ghost use Rattle.plans.specs.Stores.{plan_stores};
 ghost use Rattle.ends.specs.Ends.{Ends, number_of, reference_of, gave, settled};
 
 use plans::Plan;
+use records::held::Set;
 use schema::Entry;
 use terms::{RecordNo, Reference, Refusal, Status};
 
@@ -53,7 +54,7 @@ pub fn give(base: &[u8], e: Entry, found: Option<RecordNo>, area: &mut [u8]) -> 
     let Some(r) = found else {
         return Reference::end();
     };
-    areas::read_area(base, e, r, area);
+    areas::read_area(&Set::of(base, &e).record(r), area);
     Reference::number(r)
 }
 
