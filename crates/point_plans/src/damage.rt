@@ -103,10 +103,5 @@ pub fn any_damaged(
     requires owners_in { OwnersIn e owners (length base.now) }
     ensures { result ≡ damaged base.now e src.now at owners links }
 {
-    for k in 0..e.count as usize {
-        if damaged_on(base, e, src, at[k], owners[k], links[k], k) {
-            return true;
-        }
-    }
-    false
+    (0..e.count as usize).any(|k| damaged_on(base, e, src, at[k], owners[k], links[k], k))
 }
