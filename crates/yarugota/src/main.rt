@@ -111,47 +111,14 @@ fn take_bytes<W: Write>(
     ensures led { OnErr result ((i : ℕ) × (i < length bytes.now) × (slice_index bytes.now i ≡ 10) × (next : ℕ) × (more : ℕ) × Leads (λ s. bytes_taken schema.now s (take (i + 1) bytes.now)) progress.number progress.len line.old base.old next more line.new base.new) }
 {
     let mut at = progress;
-    let mut i = 0;
-    while i < bytes.len() {
-        at = take_byte(to, at, bytes[i], line, schema, base)?;
-        i += 1;
+    for &byte in bytes {
+        at = take_byte(to, at, byte, line, schema, base)?;
     }
     Ok(at)
 }
 
-// What one read brought.
-#[derive(Clone, Copy)]
-struct Turn {
-    progress: Progress,
-    more: bool,
-}
-
-// Reads once, and takes the bytes that it has read, whichever they are. A read that fails brings none.
-fn read_once<R: Read, W: Write>(
-    from: &mut R,
-    to: &mut W,
-    progress: Progress,
-    line: &mut [u8],
-    schema: &[u8],
-    base: &mut [u8],
-) -> io::Result<Turn>
-    requires { (length line.old ≡ 129) × (progress.len ≤ 129) }
-    ensures len_bound { IfOk result (λ r. r.progress.len ≤ 129) }
-    ensures leads { IfOk result (λ r. (bytes : List ℕ) × (r.more ≡ not (length bytes == 0)) × Leads (λ s. bytes_taken schema.now s bytes) progress.number progress.len line.old base.old r.progress.number r.progress.len line.new base.new × ((s : Stand) → StandsAt s progress.number progress.len line.old base.old → Appends (W.contents to.old) (W.contents to.new) (bytes_printed schema.now s bytes)) × Consumes (R.remaining from.old) (R.remaining from.new) bytes × (r.more ≡ false → IsAtEnd (R.remaining from.new))) }
-    ensures led { OnErr result ((bytes : List ℕ) × (next : ℕ) × (more : ℕ) × Leads (λ s. bytes_taken schema.now s bytes) progress.number progress.len line.old base.old next more line.new base.new) }
-{
-    let mut buffer = [0u8; 4096];
-    let n = from.read(&mut buffer)?;
-    let more = n != 0;
-    let next = take_bytes(to, progress, &buffer[..n], line, schema, base)?;
-    Ok(Turn {
-        progress: next,
-        more: more,
-    })
-}
-
-// Reads to the end of the input. A proved loop has to end, and nothing says that the input does: so it counts its turns down, from a
-// number that no run uses up.
+// Reads to the end of the input, and takes the bytes of each read, whichever they are. A proved loop has to end, and nothing says that
+// the input does: so its turns are counted, and no run uses them up. A read that fails brings no bytes.
 fn read_all<R: Read, W: Write>(
     from: &mut R,
     to: &mut W,
@@ -165,14 +132,13 @@ fn read_all<R: Read, W: Write>(
     ensures stood { OnErr result ((bytes : List ℕ) × (number : ℕ) × (len : ℕ) × StandsAt (bytes_taken schema.now (begun base.old) bytes) number len line.new base.new) }
 {
     let mut progress = Progress { number: 1, len: 0 };
-    let mut turns = u64::MAX;
-    while 0 < turns {
-        let t = read_once(from, to, progress, line, schema, base)?;
-        progress = t.progress;
-        if !t.more {
+    let mut buffer = [0u8; 4096];
+    for _turn in 0..u64::MAX {
+        let n = from.read(&mut buffer)?;
+        if n == 0 {
             return Ok(progress);
         }
-        turns -= 1;
+        progress = take_bytes(to, progress, &buffer[..n], line, schema, base)?;
     }
     Ok(progress)
 }

@@ -1,4 +1,5 @@
-use Rattle.std.proofs.Common.{[], ◌++◌, ◌≡◌, ℕ, ◌<◌, List, length, not, true, eqb, refl, arith, rules, length-append}
+use Rattle.std.proofs.Common.{[], ◌++◌, ◌≡◌, ℕ, List, refl, arith, rules, length-append, take, subst, ap, ◌∙◌, append-nil, Option}
+use Rattle.std.specs.Io.KnownBytes.{Consumes}
 use Rattle.std.proofs.lemmas.Result.{err_from_is_err_and}
 use Rattle.std.proofs.KnownBytes.{Appends-nil, Appends-trans, Consumes-nil, Consumes-trans}
 use Rattle.console.specs.Session.{begun, bytes_taken, StandsAt, Leads}
@@ -15,52 +16,48 @@ read-more :
     → StandsAt (bytes_taken schema (begun base) (before ++ bytes)) next more kept after
 read-more schema base before bytes at leads = rw (taken_append schema (begun base) before bytes) (leads (bytes_taken schema (begun base) before) at)
 
-some : (xs : List ℕ) → true ≡ not (eqb (length xs) 0) → 0 < length xs
-some xs e = grind arith
+-- a read that brings no byte leaves what is left
+none-more : (a b c : Option (List ℕ)) (bytes buffer : List ℕ) (n : ℕ) → Consumes a b bytes → Consumes b c (take n buffer) → n ≡ 0 → Consumes a c bytes
+none-more a b c bytes buffer n p q e = subst (Consumes a c) (ap (λ m. bytes ++ take m buffer) e ∙ append-nil bytes) (Consumes-trans a b c bytes _ p q)
 
-pub loop-turns-init : goal.loop-turns-init
+pub loop-turn-init : goal.loop-turn-init
 unfolding bytes_taken bytes_printed
-loop-turns-init g c = record {
+loop-turn-init g c = record {
   kept = omega arith;
   line = c.requires;
   stands = ([], record { number = refl; line = nothing-kept _; base = refl }, Appends-nil _, Consumes-nil _, omega arith);
 }
 
-pub returns-in_err-t-clause-stood : goal.returns-in_err-t-clause-stood
-returns-in_err-t-clause-stood g c =
-    let p = err_from_is_err_and c.from_residual.result c.from_residual.ensures.1 in
-    let i = c.loop-turns.invariant.stands in
-    let w = c.in_err-t.ensures.led in
-    rw p.1 (i.0 ++ w.0, w.1, w.2, read-more c.args.schema.now c.args.base.now i.0 w.0 i.1 w.3)
+pub returns-in_err-progress-clause-stood : goal.returns-in_err-progress-clause-stood
+returns-in_err-progress-clause-stood g c =
+    let p = err_from_is_err_and c.from_residual-in_err-progress.result c.from_residual-in_err-progress.ensures.1 in
+    let i = c.loop-turn.invariant.stands in
+    let w = c.in_err-progress.ensures.led in
+    rw p.1 (i.0 ++ _, w.3, w.4, read-more c.args.schema.now c.args.base.now i.0 _ i.1 w.5)
 
-pub returns-then-not-t-clause-stands : goal.returns-then-not-t-clause-stands
-returns-then-not-t-clause-stands g c =
-    let i = c.loop-turns.invariant.stands in
-    let w = c.in_ok-t.ensures.leads in (
-      i.0 ++ w.0,
-      read-more c.args.schema.now c.args.base.now i.0 w.0 i.1 w.2,
-      rw (printed_append c.args.schema.now (begun c.args.base.now) i.0 w.0) (Appends-trans _ _ _ _ _ i.2 (w.3 _ i.1)),
-      Consumes-trans _ _ _ _ _ i.3 w.4,
-      λ _. w.5 (search rules),
-    )
+pub returns-then-n-eq0-clause-stands : goal.returns-then-n-eq0-clause-stands
+returns-then-n-eq0-clause-stands g c =
+    let i = c.loop-turn.invariant.stands in
+    let r = c.in_ok-n.ensures.bytes in
+    (i.0, i.1, i.2, none-more _ _ _ i.0 c.read.new.buf c.in_ok-n.n i.3 r.0 c.if-n-eq0.true, λ _. r.1 c.if-n-eq0.true (search rules))
 
-pub loop-turns-preserved : goal.loop-turns-preserved
-loop-turns-preserved g c =
-    let i = c.loop-turns.invariant.stands in
-    let w = c.in_ok-t.ensures.leads in
+pub loop-turn-preserved : goal.loop-turn-preserved
+loop-turn-preserved g c =
+    let i = c.loop-turn.invariant.stands in
+    let w = c.in_ok-progress.ensures in
     record {
-      kept = c.in_ok-t.ensures.len_bound;
+      kept = w.len_bound;
       line = search rules;
       stands = (
-        i.0 ++ w.0,
-        read-more c.args.schema.now c.args.base.now i.0 w.0 i.1 w.2,
-        rw (printed_append c.args.schema.now (begun c.args.base.now) i.0 w.0) (Appends-trans _ _ _ _ _ i.2 (w.3 _ i.1)),
-        Consumes-trans _ _ _ _ _ i.3 w.4,
-        omega (arith, i.4, length-append i.0 w.0, some w.0 (search rules)),
+        i.0 ++ take c.in_ok-n.n c.read.new.buf,
+        read-more c.args.schema.now c.args.base.now i.0 _ i.1 w.leads,
+        rw (printed_append c.args.schema.now (begun c.args.base.now) i.0 (take c.in_ok-n.n c.read.new.buf)) (Appends-trans _ _ _ _ _ i.2 (w.written _ i.1)),
+        Consumes-trans _ _ _ _ _ i.3 c.in_ok-n.ensures.bytes.0,
+        omega (arith, i.4, length-append i.0 (take c.in_ok-n.n c.read.new.buf), c.in_ok-n.ensures.bound, c.if-n-eq0.false),
       );
     }
 
 pub returns-clause-stands : goal.returns-clause-stands
 returns-clause-stands g c =
-    let i = c.loop-turns.invariant.stands in
+    let i = c.loop-turn.invariant.stands in
     (i.0, i.1, i.2, i.3, λ h. absurd (omega (arith, i.4, h)))
