@@ -1,8 +1,8 @@
 -- The laws of a clean data base: how the loops of its tests end, and what is asked of one record.
-use Rattle.std.specs.Prelude.{ℕ, ◌+◌, ◌≤◌, ◌<◌, ◌≡◌, refl, Bool, true, false, ◌&&◌, not, List}
+use Rattle.std.specs.List.{list_all, range_with_len}
+use Rattle.std.specs.Prelude.{ℕ, zero, suc, ◌+◌, ◌≤◌, ◌≡◌, refl, Bool, true, false, ◌&&◌, List}
 use Rattle.std.proofs.Common.{sym, ◌∙◌, arith, eq-eqb, ne_eqb}
 use Rattle.std.proofs.Math.Path.{ap}
-use Rattle.std.proofs.lemmas.Bool.{not-true, not-false}
 use Rattle.octets.specs.Octets.{byte_at, run, all_zero}
 use Rattle.octets.specs.SpliceLaws.{run_run}
 use Rattle.octets.specs.Below.{all_below}
@@ -13,25 +13,19 @@ use Rattle.records.specs.Records.{state_of}
 use Rattle.records.proofs.RecordLaws.{state-part}
 use Rattle.sound.specs.Sound.{record_clean}
 
--- ---- a loop that tests the numbers below n and leaves at the first that fails: a turn, the way out, the end. r is what the code was told.
+-- ---- a test of every number from a on, n of them, is a test of those below a + n where the ones below a pass
 
-module _ (f : ℕ → Bool) where
-  pub passes : (i : ℕ) {r : Bool} → r ≡ f i → not r ≡ false → all_below f i ≡ true → all_below f (i + 1) ≡ true
-  passes i {r} e h a = all_below-turn f i a (sym e ∙ not-false r h)
+pub all-range : (f : ℕ → Bool) (n a m : ℕ) → a + n ≡ m → all_below f a ≡ true → list_all f (range_with_len a n) ≡ all_below f m
+all-range f zero a m e h = let q : a ≡ m = omega (arith, e) in rw q at (sym h)
+all-range f (suc n) a m e h = turn (f a) refl (λ k. all-range f n (a + 1) m (omega (arith, e)) (all_below-turn f a h k))
+  where
+    turn : (t : Bool) → f a ≡ t → (f a ≡ true → list_all f (range_with_len (a + 1) n) ≡ all_below f m) → (t && list_all f (range_with_len (a + 1) n)) ≡ all_below f m
+    turn true k more = more k
+    turn false k more = sym (all_below-fails f m a (omega (arith, e)) k)
 
-  pub fails : (n i : ℕ) {r : Bool} → i < n → r ≡ f i → not r ≡ true → false ≡ all_below f n
-  fails n i {r} l e h = sym (all_below-fails f n i l (sym e ∙ not-true r h))
-
-  pub ends : (n i : ℕ) → i ≤ n → n ≤ i → all_below f i ≡ true → true ≡ all_below f n
-  ends n i a b h = let q : i ≡ n = omega arith in sym (rw q at h)
-
--- ---- two tests, the second only where the first holds: the way out, and the end
-
-pub stops : (a b : Bool) {p : Bool} → p ≡ a → not p ≡ true → false ≡ (a && b)
-stops a b {p} e h = rw (← e, not-true p h) refl
-
-pub goes_on : (a b : Bool) {p q : Bool} → p ≡ a → not p ≡ false → q ≡ b → q ≡ (a && b)
-goes_on a b {p} e h d = rw (← e, not-false p h) d
+pub all_upto : (f : ℕ → Bool) (n : ℕ) → list_all f (range_with_len 0 n) ≡ all_below f n
+unfolding all_below
+all_upto f n = all-range f n 0 n (omega arith) refl
 
 -- ---- one record, from the part that was lent
 

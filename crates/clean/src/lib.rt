@@ -18,14 +18,7 @@ fn sealed_below(base: &[u8], n: u32, k: Check) -> bool
     requires { n * 512 ≤ length base.now }
     ensures { result ≡ all_below (is_sealed k base.now) n }
 {
-    let mut i: u32 = 0;
-    while i < n {
-        if !blocks::sealed(base, BlockNo(i), k) {
-            return false;
-        }
-        i += 1;
-    }
-    true
+    (0..n).all(|i| blocks::sealed(base, BlockNo(i), k))
 }
 
 // "all checks true"
@@ -55,15 +48,7 @@ fn records_clean(base: &[u8], e: Entry) -> bool
     requires le_size { 4 ≤ e.size }
     ensures { result ≡ each_record e (record_clean base.now e) }
 {
-    let n = e.records;
-    let mut k: u32 = 0;
-    while k < n {
-        if !record_clean(base, e, RecordNo(k + 1)) {
-            return false;
-        }
-        k += 1;
-    }
-    true
+    (0..e.records).all(|k| record_clean(base, e, RecordNo(k + 1)))
 }
 
 // "Room after records is zero.": up to the block's check.
@@ -79,15 +64,7 @@ fn leftovers_clean(base: &[u8], e: Entry) -> bool
     requires { LiesIn e (length base.now) }
     ensures { result ≡ all_below (leftover_clean base.now e) (blocks_held e) }
 {
-    let n = blocks_held(e);
-    let mut k: u32 = 0;
-    while k < n {
-        if !leftover_clean(base, e, k) {
-            return false;
-        }
-        k += 1;
-    }
-    true
+    (0..blocks_held(e)).all(|k| leftover_clean(base, e, k))
 }
 
 // "states 0 or 1; free records, fillers and leftovers zero"
@@ -96,8 +73,5 @@ pub fn set_clean(base: &[u8], e: Entry) -> bool
     requires le_size { 4 ≤ e.size }
     ensures { result ≡ set_clean base.now e }
 {
-    if !records_clean(base, e) {
-        return false;
-    }
-    leftovers_clean(base, e)
+    records_clean(base, e) && leftovers_clean(base, e)
 }
