@@ -1,7 +1,7 @@
 -- What a plan's stores leave, one part behind the other, and a record that is stored whole with one word of it changed.
 use Rattle.std.specs.Prelude.{ℕ, zero, suc, ◌+◌, ◌≤◌, ◌<◌, ◌≡◌, List, [], ◌∷◌, ◌++◌, length, get_or, drop}
 use Rattle.std.proofs.Math.Path.{refl}
-use Rattle.std.proofs.Common.{sym, ap, ◌∙◌, arith, get_or-take}
+use Rattle.std.proofs.Common.{sym, ap, ◌∙◌, arith, drop_of_length-le}
 use borrow.Rule.Slice.PartMut.{put_mid}
 use Rattle.octets.specs.Octets.{run, splice, word_bytes, set_word}
 use Rattle.octets.specs.SpliceLaws.{length-splice, run_splice, splice-part, splice-splice, splice-whole}
@@ -13,7 +13,7 @@ use Rattle.plans.specs.PlanOk.{AllFit, WordsOk}
 use Rattle.plans.proofs.FitLaws.{word_inside}
 use Rattle.plans.specs.Stores.{words_of, word_stores, head_stores, wiped_stores, plan_stores}
 use Rattle.commit.specs.Touched.{no_word}
-use Rattle.commit.specs.TouchedLaws.{count-words, words_step, words-done}
+use Rattle.commit.specs.TouchedLaws.{words_step}
 
 store_all_append : (b : List ℕ) (xs ys : List Store) → store_all b (xs ++ ys) ≡ store_all (store_all b xs) ys
 unfolding store_all
@@ -38,29 +38,23 @@ pub set_word_inner : (b : List ℕ) (a : ℕ) (ys : List ℕ) (j v : ℕ) → j 
 unfolding set_word
 set_word_inner b a ys j v h k = splice_inner b a ys j (word_bytes v) h k
 
--- ---- the words of a plan, one after the other
+-- ---- words, one after the other
 
-at_word : (n : ℕ) (ws : List Word) (i : ℕ) → AllFit n (word_stores ws) → WordsOk ws → i < length ws
+pub word_in_base : (n : ℕ) (ws : List Word) (i : ℕ) → AllFit n (word_stores ws) → WordsOk ws → i < length ws
     → ((get_or ws i no_word).offset + 4 ≤ (get_or ws i no_word).size) × ((get_or ws i no_word).at + (get_or ws i no_word).size ≤ n)
 unfolding word_stores
-at_word n [] i f k h = absurd (omega arith)
-at_word n (w ∷ ws) zero f k h = (k.0.field, word_inside w k.0 f.0)
-at_word n (w ∷ ws) (suc i) f k h = at_word n ws i f.1 k.1 (omega arith)
+word_in_base n [] i f k h = absurd (omega arith)
+word_in_base n (w ∷ ws) zero f k h = (k.0.field, word_inside w k.0 f.0)
+word_in_base n (w ∷ ws) (suc i) f k h = word_in_base n ws i f.1 k.1 (omega arith)
 
-module _ (p : Plan) (whole : length p.words ≡ 8) (few : p.count ≤ 8) where
-  pub word_in_base : (n i : ℕ) → AllFit n (word_stores (words_of p)) → WordsOk (words_of p) → i < p.count
-      → ((get_or p.words i no_word).offset + 4 ≤ (get_or p.words i no_word).size) × ((get_or p.words i no_word).at + (get_or p.words i no_word).size ≤ n)
-  word_in_base n i f k h =
-      rw (get_or-take p.count p.words i no_word h) at (at_word n (words_of p) i f k (omega (arith, count-words p whole few)))
+pub store-word_turn : (ws : List Word) (b : List ℕ) (i : ℕ) → i < length ws
+    → store_all b (word_stores (drop i ws)) ≡ store_all (set_word b ((get_or ws i no_word).at + (get_or ws i no_word).offset) (get_or ws i no_word).value) (word_stores (drop (i + 1) ws))
+unfolding store_all word_stores set_word
+store-word_turn ws b i h = rw (words_step ws i h) refl
 
-  pub store-word_turn : (b : List ℕ) (i : ℕ) → i < p.count
-      → store_all b (word_stores (drop i (words_of p))) ≡ store_all (set_word b ((get_or p.words i no_word).at + (get_or p.words i no_word).offset) (get_or p.words i no_word).value) (word_stores (drop (i + 1) (words_of p)))
-  unfolding store_all word_stores set_word
-  store-word_turn b i h = rw (words_step p whole few i h) refl
-
-  pub store-words_end : (b : List ℕ) (i : ℕ) → p.count ≤ i → store_all b (word_stores (drop i (words_of p))) ≡ b
-  unfolding store_all word_stores
-  store-words_end b i h = rw (words-done p whole few i h) refl
+pub store-words_end : (ws : List Word) (b : List ℕ) (i : ℕ) → length ws ≤ i → store_all b (word_stores (drop i ws)) ≡ b
+unfolding store_all word_stores
+store-words_end ws b i h = rw (drop_of_length-le ws {i = i} h) refl
 
 -- the three parts of a plan's stores
 pub plan_stored : (b : List ℕ) (e : Entry) (area : List ℕ) (p : Plan) (x y z : List ℕ)

@@ -1,15 +1,16 @@
 -- The blocks that a plan touches: a list of them goes block by block, a plan's words go word by word, and the blocks of a plan's stores are
 -- those that the plan names, and lie within the data base.
-use Rattle.std.specs.Prelude.{ℕ, zero, suc, ◌+◌, ◌≤◌, ◌<◌, ◌≡◌, Bool, length, get_or, take, drop, set}
+use Rattle.std.specs.Prelude.{ℕ, zero, suc, ◌+◌, ◌≤◌, ◌<◌, ◌≡◌, Bool, ◌&&◌, ◌||◌, ◌⊎◌, not, length, get_or, take, drop, set}
 use Rattle.std.proofs.Math.Path.{refl}
-use Rattle.std.proofs.Common.{ap, ◌∙◌, arith, add-one, drop_of_length-le, length-take-le, get_or-take, drop-cons, take-suc-set}
-use Rattle.std.proofs.Math.Bool.{true, false, cond}
+use Rattle.std.proofs.Math.Logic.{⊎_elim}
+use Rattle.std.proofs.Common.{ap, ◌∙◌, arith, add-one, drop_of_length-le, drop-cons, take-suc-set}
+use Rattle.std.specs.List.{list_all, list_any}
+use Rattle.std.proofs.Math.Bool.{true, false, cond, and-eq-true_iff}
 use mathlib.Core.List.{List, [], ◌∷◌, ◌++◌}
 use borrow.Author.Tests.{eqb-false, le-leb, leb-true}
 use Rattle.std.proofs.Math.Dec.{eqb}
 use Rattle.octets.specs.Octets.{every}
-use Rattle.octets.specs.SpliceLaws.{drop-one}
-use Rattle.octets.specs.RunLaws.{every_append, every_turn, every_fails, every_end, every_at}
+use Rattle.octets.specs.RunLaws.{every_append}
 use Rattle.terms.specs.declared.BlockNo.{BlockNo}
 use Rattle.blocks.specs.declared.Check.{Check}
 use Rattle.blocks.specs.Blocks.{block_at, block_with, seal}
@@ -35,46 +36,55 @@ unfolding bare_numbers
 length-plain [] = refl
 length-plain (n ∷ ns) = ap suc (length-plain ns)
 
-plain_at : (ns : List BlockNo) (i : ℕ) → get_or (bare_numbers ns) i 0 ≡ (get_or ns i no_block).0
-unfolding bare_numbers
-plain_at [] i = refl
-plain_at (n ∷ ns) zero = refl
-plain_at (n ∷ ns) (suc i) = plain_at ns i
-
 plain-set : (ns : List BlockNo) (i : ℕ) (n : BlockNo) → bare_numbers (set ns i n) ≡ set (bare_numbers ns) i n.0
 unfolding bare_numbers
 plain-set [] i n = refl
 plain-set (m ∷ ns) zero n = refl
 plain-set (m ∷ ns) (suc i) n = ap (λ (ks : List ℕ). m.0 ∷ ks) (plain-set ns i n)
 
-module _ (s : Blocks) (whole : length s.numbers ≡ 12) (few : s.count ≤ 12) where
-  count-blocks : length (numbers_of s) ≡ s.count
-  count-blocks = length-take-le s.count (bare_numbers s.numbers) (omega (arith, length-plain s.numbers))
+pub bare-take : (n : ℕ) (ns : List BlockNo) → bare_numbers (take n ns) ≡ take n (bare_numbers ns)
+unfolding bare_numbers
+bare-take zero ns = refl
+bare-take (suc n) [] = refl
+bare-take (suc n) (m ∷ ns) = ap (λ (ks : List ℕ). m.0 ∷ ks) (bare-take n ns)
 
-  block_is : (i : ℕ) → i < s.count → get_or (numbers_of s) i 0 ≡ (get_or s.numbers i no_block).0
-  block_is i h = get_or-take s.count (bare_numbers s.numbers) i 0 h ∙ plain_at s.numbers i
+-- a test of each block is a test of each number
+pub list_all-bare : (f : ℕ → Bool) (ns : List BlockNo) → list_all (λ m. f m.0) ns ≡ every f (bare_numbers ns)
+unfolding bare_numbers every
+list_all-bare f [] = refl
+list_all-bare f (n ∷ ns) = ap (λ (t : Bool). f n.0 && t) (list_all-bare f ns)
 
-  pub blocks-turn : (f : ℕ → Bool) (i : ℕ) → i < s.count → f (get_or s.numbers i no_block).0 ≡ true → every f (drop i (numbers_of s)) ≡ every f (drop (i + 1) (numbers_of s))
-  blocks-turn f i h e = every_turn f (numbers_of s) i (omega (arith, count-blocks)) (rw (block_is i h) e)
+-- a block is among them, or its number is new to theirs
+pub list_any-bare : (k : ℕ) (ns : List BlockNo) → list_any (λ m. eqb m.0 k) ns ≡ not (is_new k (bare_numbers ns))
+unfolding bare_numbers every
+list_any-bare k [] = refl
+list_any-bare k (n ∷ ns) = rw (list_any-bare k ns) (go (eqb n.0 k))
+  where
+    go : (t : Bool) → (t || not (is_new k (bare_numbers ns))) ≡ not (not t && is_new k (bare_numbers ns))
+    go true = refl
+    go false = refl
 
-  pub blocks_fail : (f : ℕ → Bool) (i : ℕ) → i < s.count → f (get_or s.numbers i no_block).0 ≡ false → every f (drop i (numbers_of s)) ≡ false
-  blocks_fail f i h e = every_fails f (numbers_of s) i (omega (arith, count-blocks)) (rw (block_is i h) e)
+-- the blocks from i on
+pub blocks_step : (ns : List BlockNo) (i : ℕ) → i < length ns → drop i ns ≡ get_or ns i no_block ∷ drop (i + 1) ns
+blocks_step ns i h = rw add-one (drop-cons ns i no_block h)
 
-  pub blocks_end : (f : ℕ → Bool) (i : ℕ) → s.count ≤ i → every f (drop i (numbers_of s)) ≡ true
-  blocks_end f i h = every_end f (numbers_of s) i (omega (arith, count-blocks))
+pub block_within_lem : (ns : List BlockNo) (n i : ℕ) (d : BlockNo) → AllWithin n (bare_numbers ns) → i < length ns → block_at (get_or ns i d).0 + 512 ≤ n
+unfolding bare_numbers every
+block_within_lem [] n i d w h = absurd (omega arith)
+block_within_lem (m ∷ ns) n zero d w h = leb-true (block_at m.0 + 512) n ((and-eq-true_iff (block_within n m.0) (every (block_within n) (bare_numbers ns))).0 w).0
+block_within_lem (m ∷ ns) n (suc i) d w h =
+    block_within_lem ns n i d ((and-eq-true_iff (block_within n m.0) (every (block_within n) (bare_numbers ns))).0 w).1 (omega arith)
 
-  pub block_within_lem : (n i : ℕ) → AllWithin n (numbers_of s) → i < s.count → block_at (get_or s.numbers i no_block).0 + 512 ≤ n
-  block_within_lem n i w h = rw (block_is i h) at (leb-true (block_at (get_or (numbers_of s) i 0) + 512) n (every_at (block_within n) (numbers_of s) i w (omega (arith, count-blocks))))
+pub seal-turn : (k : Check) (b : List ℕ) (ns : List BlockNo) (i : ℕ) → i < length ns
+    → seal_each k b (bare_numbers (drop i ns)) ≡ seal_each k (seal k b (get_or ns i no_block).0) (bare_numbers (drop (i + 1) ns))
+unfolding seal_each bare_numbers
+seal-turn k b ns i h = rw (blocks_step ns i h) refl
 
-  pub seal-turn : (k : Check) (b : List ℕ) (i : ℕ) → i < s.count → seal_each k b (drop i (numbers_of s)) ≡ seal_each k (seal k b (get_or s.numbers i no_block).0) (drop (i + 1) (numbers_of s))
-  unfolding seal_each
-  seal-turn k b i h = rw (drop-one (numbers_of s) i (omega (arith, count-blocks)), block_is i h) refl
+pub seal_end : (k : Check) (b : List ℕ) (ns : List BlockNo) (i : ℕ) → length ns ≤ i → seal_each k b (bare_numbers (drop i ns)) ≡ b
+unfolding seal_each bare_numbers
+seal_end k b ns i h = rw (drop_of_length-le ns {i = i} h) refl
 
-  pub seal_end : (k : Check) (b : List ℕ) (i : ℕ) → s.count ≤ i → seal_each k b (drop i (numbers_of s)) ≡ b
-  unfolding seal_each
-  seal_end k b i h = rw (drop_of_length-le (numbers_of s) {i = i} (omega (arith, count-blocks))) refl
-
--- one more number, or one that is there
+-- a new number stands behind the others, and one of them changes nothing
 pub block_added : (s : Blocks) (n : BlockNo) → length s.numbers ≡ 12 → s.count < 12 → is_new n.0 (numbers_of s) ≡ true
     → take (s.count + 1) (bare_numbers (set s.numbers s.count n)) ≡ add_new (numbers_of s) n.0
 block_added s n w l h = rw (h, plain-set, add-one s.count) (take-suc-set (bare_numbers s.numbers) s.count n.0 (omega (arith, length-plain s.numbers)))
@@ -82,28 +92,19 @@ block_added s n w l h = rw (h, plain-set, add-one s.count) (take-suc-set (bare_n
 pub block_known : (s : Blocks) (n : ℕ) → is_new n (numbers_of s) ≡ false → numbers_of s ≡ add_new (numbers_of s) n
 block_known s n h = rw h refl
 
--- ---- the words of a plan, one after the other
+-- ---- words, one after the other
 
-module _ (p : Plan) (whole : length p.words ≡ 8) (few : p.count ≤ 8) where
-  pub count-words : length (words_of p) ≡ p.count
-  count-words = length-take-le p.count p.words (omega arith)
+pub words_step : (ws : List Word) (i : ℕ) → i < length ws → drop i ws ≡ get_or ws i no_word ∷ drop (i + 1) ws
+words_step ws i h = rw add-one (drop-cons ws i no_word h)
 
-  pub words_step : (i : ℕ) → i < p.count → drop i (words_of p) ≡ get_or p.words i no_word ∷ drop (i + 1) (words_of p)
-  words_step i h =
-      let l : i < length (words_of p) = omega (arith, count-words) in
-      rw (add-one, drop-cons (words_of p) i no_word l, get_or-take p.count p.words i no_word h)
+pub word_block_turn : (ws : List Word) (ks : List ℕ) (i : ℕ) → i < length ws
+    → add_all ks (word_blocks (drop i ws)) ≡ add_all (add_new ks (block_with (get_or ws i no_word).at)) (word_blocks (drop (i + 1) ws))
+unfolding add_all word_blocks
+word_block_turn ws ks i h = rw (words_step ws i h) refl
 
-  pub words-done : (i : ℕ) → p.count ≤ i → drop i (words_of p) ≡ []
-  words-done i h = drop_of_length-le (words_of p) {i = i} (omega (arith, count-words))
-
-  pub word_block_turn : (ks : List ℕ) (i : ℕ) → i < p.count
-      → add_all ks (word_blocks (drop i (words_of p))) ≡ add_all (add_new ks (block_with (get_or p.words i no_word).at)) (word_blocks (drop (i + 1) (words_of p)))
-  unfolding add_all word_blocks
-  word_block_turn ks i h = rw (words_step i h) refl
-
-  pub word_blocks_end : (ks : List ℕ) (i : ℕ) → p.count ≤ i → add_all ks (word_blocks (drop i (words_of p))) ≡ ks
-  unfolding add_all word_blocks
-  word_blocks_end ks i h = rw (words-done i h) refl
+pub word_blocks_end : (ws : List Word) (ks : List ℕ) (i : ℕ) → length ws ≤ i → add_all ks (word_blocks (drop i ws)) ≡ ks
+unfolding add_all word_blocks
+word_blocks_end ws ks i h = rw (drop_of_length-le ws {i = i} h) refl
 
 -- ---- the blocks of stores
 
@@ -193,3 +194,20 @@ module _ (n : ℕ) (e : Entry) (ok : LiesIn e n) where
       let h : every f hs ≡ true = head_within p.head p.target.0 p.other.0 k.head in
       let w : every f ws ≡ true = words-within n (words_of p) k.words k.records in
       every_append f hs (ws ++ wiped_blocks e p.wiped) ∙ (rw (every_append f ws (wiped_blocks e p.wiped), h, w) (wiped-within p.wiped k.wiped))
+
+-- ---- the heads that store into the target alone
+
+abbrev pub OneRecord : Head → Type 0
+OneRecord h = (h ≡ Body) ⊎ ((h ≡ Master) ⊎ ((h ≡ Variable) ⊎ (h ≡ Synonym)))
+
+module _ (e : Entry) (r q : ℕ) where
+  pub one-in_set : (h : Head) → OneRecord h → HeadOk h e r q → InSet e r
+  one-in_set Nothing o k = ⊎_elim (λ x. cc) (λ y. ⊎_elim (λ x. cc) (λ z. ⊎_elim (λ x. cc) (λ x. cc) z) y) o
+  one-in_set Body o k = k
+  one-in_set Master o k = k.0
+  one-in_set Variable o k = k.0
+  one-in_set Stranger o k = k.0
+  one-in_set Synonym o k = k.0
+
+  pub one-block_of : (h : Head) → OneRecord h → head_blocks h e r q ≡ block_of e r ∷ []
+  one-block_of h o = ⊎_elim (λ x. rw x refl) (λ y. ⊎_elim (λ x. rw x refl) (λ z. ⊎_elim (λ x. rw x refl) (λ x. rw x refl) z) y) o

@@ -10,8 +10,8 @@ ghost use Rattle.records.specs.Fields.{Fields};
 ghost use Rattle.records.specs.Areas.{area_length, new_master};
 ghost use Rattle.plans.specs.Plan.{blocks_sealed, store_all, committed};
 ghost use Rattle.plans.specs.PlanOk.{HeadOk, AreaOk, PlanOk, AllFit, WordsOk};
-ghost use Rattle.plans.specs.Stores.{words_of, word_stores, head_stores, wiped_stores, plan_stores};
-ghost use Rattle.commit.specs.Touched.{is_new, add_new, add_all, distinct, numbers_of, AllWithin, all_sealed, seal_each, word_blocks, head_blocks, wiped_blocks, plan_blocks};
+ghost use Rattle.plans.specs.Stores.{word_stores, head_stores, wiped_stores, plan_stores};
+ghost use Rattle.commit.specs.Touched.{add_new, add_all, distinct, bare_numbers, numbers_of, AllWithin, all_sealed, seal_each, word_blocks, head_blocks, wiped_blocks, plan_blocks};
 
 use areas::{put_body, put_master, put_variable};
 use blocks::{Check, block_with};
@@ -23,7 +23,7 @@ use schema::layout::block_of;
 use terms::{BlockNo, RecordNo};
 
 // Numbers of blocks, each once: the first `count` of the array. A plan has at most eleven stores: two of its head, eight words and a wiped
-// record; there is always room for one more.
+// record; there is always room for one more. (kept: the kit's `ArrayVec` would bring a crate for one buffer.)
 #[derive(Clone, Copy)]
 struct Blocks {
     numbers: [BlockNo; 12],
@@ -40,21 +40,11 @@ impl Blocks {
         }
     }
 
-    // Is the block none of these?
-    fn is_new(self, n: BlockNo) -> bool
-        requires { self.count ≤ 12 }
-        ensures { result ≡ is_new n.0 (numbers_of self) }
+    fn as_slice(&self) -> &[BlockNo]
+        requires { self.now.count ≤ 12 }
+        ensures { bare_numbers result.now ≡ numbers_of self.now }
     {
-        let count = self.count;
-        let mut i: usize = 0;
-        while i < count {
-            let k = self.numbers[i];
-            if k.0 == n.0 {
-                return false;
-            }
-            i += 1;
-        }
-        true
+        &self.numbers[..self.count]
     }
 
     // And this block, unless it is one of them.
@@ -62,14 +52,13 @@ impl Blocks {
         requires { self.count < 12 }
         ensures { (numbers_of result ≡ add_new (numbers_of self) n.0) × (result.count ≤ self.count + 1) }
     {
-        if self.is_new(n) {
-            let mut s = self;
-            let i = s.count;
-            s.numbers[i] = n;
-            s.count = i + 1;
-            return s;
+        if self.as_slice().contains(&n) {
+            return self;
         }
-        self
+        let mut s = self;
+        s.numbers[s.count] = n;
+        s.count += 1;
+        s
     }
 }
 
@@ -82,26 +71,19 @@ fn head_blocks(e: Entry, head: Head, r: RecordNo, q: RecordNo) -> Blocks
     let none = Blocks::none();
     match head {
         Head::Nothing => none,
-        Head::Body => none.with(block_of(e, r)),
-        Head::Master => none.with(block_of(e, r)),
-        Head::Variable => none.with(block_of(e, r)),
+        Head::Body | Head::Master | Head::Variable | Head::Synonym => none.with(block_of(e, r)),
         Head::Stranger => none.with(block_of(e, q)).with(block_of(e, r)),
-        Head::Synonym => none.with(block_of(e, r)),
     }
 }
 
 // And those of the plan's words.
-fn word_blocks(blocks: Blocks, p: Plan) -> Blocks
-    requires { (p.count ≤ 8) × (blocks.count ≤ 2) }
-    ensures { (numbers_of result ≡ add_all (numbers_of blocks) (word_blocks (words_of p))) × (result.count ≤ 10) }
+fn word_blocks(blocks: Blocks, words: &[Word]) -> Blocks
+    requires { (length words.now ≤ 8) × (blocks.count ≤ 2) }
+    ensures { (numbers_of result ≡ add_all (numbers_of blocks) (word_blocks words.now)) × (result.count ≤ 10) }
 {
-    let count = p.count;
     let mut s = blocks;
-    let mut i: usize = 0;
-    while i < count {
-        let w = p.words[i];
+    for w in words {
         s = s.with(block_with(w.at));
-        i += 1;
     }
     s
 }
@@ -127,40 +109,25 @@ fn touched(e: Entry, p: Plan) -> Blocks
 {
     let head = p.head;
     let heads = head_blocks(e, head, p.target, p.other);
-    let words = word_blocks(heads, p);
+    let words = word_blocks(heads, &p.words[..p.count]);
     wiped_block(words, e, p.wiped)
 }
 
 // Are all their checks true?
-fn all_sealed(base: &[u8], blocks: Blocks, kind: Check) -> bool
-    requires count_bound { blocks.count ≤ 11 }
-    requires all_within { AllWithin (length base.now) (numbers_of blocks) }
-    ensures { result ≡ all_sealed kind base.now (numbers_of blocks) }
+fn all_sealed(base: &[u8], blocks: &[BlockNo], kind: Check) -> bool
+    requires { AllWithin (length base.now) (bare_numbers blocks.now) }
+    ensures { result ≡ all_sealed kind base.now (bare_numbers blocks.now) }
 {
-    let count = blocks.count;
-    let mut j: usize = 0;
-    while j < count {
-        let n = blocks.numbers[j];
-        if !blocks::sealed(base, n, kind) {
-            return false;
-        }
-        j += 1;
-    }
-    true
+    blocks.iter().all(|&n| blocks::sealed(base, n, kind))
 }
 
 // Sets their checks.
-fn seal_all(base: &mut [u8], blocks: Blocks, kind: Check)
-    requires count_bound { blocks.count ≤ 11 }
-    requires all_within { AllWithin (length base.old) (numbers_of blocks) }
-    ensures { base.new ≡ seal_each kind base.old (numbers_of blocks) }
+fn seal_all(base: &mut [u8], blocks: &[BlockNo], kind: Check)
+    requires { AllWithin (length base.old) (bare_numbers blocks.now) }
+    ensures { base.new ≡ seal_each kind base.old (bare_numbers blocks.now) }
 {
-    let count = blocks.count;
-    let mut k: usize = 0;
-    while k < count {
-        let n = blocks.numbers[k];
+    for &n in blocks {
         blocks::seal(base, n, kind);
-        k += 1;
     }
 }
 
@@ -239,18 +206,13 @@ fn put_in(base: &mut [u8], w: Word)
 }
 
 // Then the words, one after the other.
-fn store_words(base: &mut [u8], p: Plan)
-    requires count_bound { p.count ≤ 8 }
-    requires all_fit { AllFit (length base.old) (word_stores (words_of p)) }
-    requires words_ok { WordsOk (words_of p) }
-    ensures { base.new ≡ store_all base.old (word_stores (words_of p)) }
+fn store_words(base: &mut [u8], words: &[Word])
+    requires all_fit { AllFit (length base.old) (word_stores words.now) }
+    requires words_ok { WordsOk words.now }
+    ensures { base.new ≡ store_all base.old (word_stores words.now) }
 {
-    let count = p.count;
-    let mut i: usize = 0;
-    while i < count {
-        let w = p.words[i];
+    for &w in words {
         put_in(base, w);
-        i += 1;
     }
 }
 
@@ -277,7 +239,7 @@ fn store(base: &mut [u8], e: Entry, area: &[u8], p: Plan)
     let head = p.head;
     let links = p.links;
     store_head(base, e, area, head, p.target, p.other, links);
-    store_words(base, p);
+    store_words(base, &p.words[..p.count]);
     store_wiped(base, e, p.wiped);
 }
 
@@ -293,10 +255,10 @@ pub fn commit(base: &mut [u8], e: Entry, area: &[u8], p: Plan) -> bool
 {
     let kind = Check::of(e.edition);
     let blocks = touched(e, p);
-    if all_sealed(base, blocks, kind) {
-        store(base, e, area, p);
-        seal_all(base, blocks, kind);
-        return true;
+    if !all_sealed(base, blocks.as_slice(), kind) {
+        return false;
     }
-    false
+    store(base, e, area, p);
+    seal_all(base, blocks.as_slice(), kind);
+    true
 }

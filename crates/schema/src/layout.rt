@@ -112,16 +112,6 @@ pub fn record_of(base: &[u8], e: Entry, r: RecordNo) -> &[u8]
     &base[at..end]
 }
 
-// The smaller of the two.
-fn smaller(a: u32, b: u32) -> u32
-    ensures { result ≡ min a b }
-{
-    if a < b {
-        return a;
-    }
-    b
-}
-
 // The records from r on in its block.
 pub fn stretch_from(e: Entry, r: RecordNo) -> Stretch
     requires in_set { InSet e r.0 }
@@ -133,7 +123,7 @@ pub fn stretch_from(e: Entry, r: RecordNo) -> Stretch
     let at = place_of(e, r);
     Stretch {
         at: at as u32,
-        count: smaller(per - passed % per, e.records - passed),
+        count: (per - passed % per).min(e.records - passed),
     }
 }
 
@@ -146,7 +136,7 @@ pub fn next_stretch(e: Entry, s: Stretch, passed: u32) -> Stretch
     let at = blocks::place_of(BlockNo(b.0 + 1));
     Stretch {
         at: at as u32,
-        count: smaller(e.per as u32, e.records - passed),
+        count: (e.per as u32).min(e.records - passed),
     }
 }
 
@@ -177,7 +167,7 @@ fn records_held(e: Entry, k: u32) -> u32
     ensures { result ≡ records_held e k }
 {
     let per = e.per as u32;
-    smaller(per, e.records - k * per)
+    per.min(e.records - k * per)
 }
 
 // The room of the set's k-th block behind its records, up to the block's check.

@@ -1,31 +1,21 @@
-use mathlib.Core.Path.{◌≡◌, sym, ◌∙◌, ap}
-use mathlib.Core.Bool.{false, not}
-use native.Mathlib.Omega.{arith}
-use lib.ListN.{length, drop}
-use borrow.Author.Tests.{not-true, not-false}
-use Rattle.blocks.specs.Blocks.{is_sealed}
-use Rattle.commit.specs.Touched.{numbers_of, all_sealed}
-use Rattle.commit.specs.TouchedLaws.{blocks-turn, blocks_fail, blocks_end, block_within_lem}
+-- `commit::all_sealed` meets its contract: a test of each block.
+use Rattle.std.proofs.Common.{rules, tests, ◌∙◌}
+use Rattle.std.proofs.lemmas.Iterator.{YieldsList-from_slice}
+use Rattle.std.proofs.lemmas.Iterator.Adapters.{serves_from_places}
+use Rattle.std.proofs.lemmas.Iterator.Search.{all_from_yields_List}
+use Rattle.terms.specs.declared.BlockNo.{BlockNo}
+use Rattle.std.specs.Prelude.{Bool}
+use Rattle.blocks.specs.Blocks.{is_sealed, HasBlock}
+use Rattle.commit.specs.TouchedLaws.{list_all-bare, block_within_lem}
 use Rattle.commit.proofs.all_sealed.Goals as goal
 
-pub sealed-requires : goal.sealed-requires
-sealed-requires c =
-    block_within_lem c.args.blocks ((let by_whole : length c.args.blocks.numbers ≡ 12 = c.well_formed.1.0.1.1.0.1.0.1 in by_whole)) (omega arith) (length c.args.base.now) c.loop-j.j c.requires.all_within (omega arith)
-
-pub returns-then-not-sealed : goal.returns-then-not-sealed
-returns-then-not-sealed c =
-    let a = c.args in
-    let f : all_sealed a.kind a.base.now (drop c.loop-j.j (numbers_of a.blocks)) ≡ false =
-    blocks_fail a.blocks ((let by_whole : length c.args.blocks.numbers ≡ 12 = c.well_formed.1.0.1.1.0.1.0.1 in by_whole)) (omega arith) (is_sealed a.kind a.base.now) c.loop-j.j (omega arith) (sym c.sealed.ensures ∙ not-true c.sealed.result (ap not c.if-not-sealed.true)) in
-    sym f ∙ c.loop-j.invariant.1
-
-pub loop-j-preserved : goal.loop-j-preserved
-loop-j-preserved c =
-    let a = c.args in
-    let t = blocks-turn a.blocks ((let by_whole : length c.args.blocks.numbers ≡ 12 = c.well_formed.1.0.1.1.0.1.0.1 in by_whole)) (omega arith) (is_sealed a.kind a.base.now) c.loop-j.j (omega arith) (sym c.sealed.ensures ∙ not-false c.sealed.result (ap not c.if-not-sealed.false)) in
-    (omega arith, sym t ∙ c.loop-j.invariant.1)
+pub all-requires-clause-callable : goal.all-requires-clause-callable
+all-requires-clause-callable c = serves_from_places (YieldsList-from_slice c.args.blocks.now (c.iter.ensures.rest)) (λ x q k. search rules) (λ x k l e.
+    let has : HasBlock c.args.base.now x.now.0 = rw e (block_within_lem c.args.blocks.now _ k x.now c.requires l) in
+    search (rules, has))
 
 pub returns : goal.returns
 returns c =
-    let a = c.args in
-    sym (blocks_end a.blocks ((let by_whole : length c.args.blocks.numbers ≡ 12 = c.well_formed.1.0.1.1.0.1.0.1 in by_whole)) (omega arith) (is_sealed a.kind a.base.now) c.loop-j.j (omega arith)) ∙ c.loop-j.invariant.1
+    let f : BlockNo → Bool = λ m. is_sealed c.args.kind c.args.base.now m.0 in
+    all_from_yields_List f _ _ _ c.all.ensures.ran (YieldsList-from_slice c.args.blocks.now (c.iter.ensures.rest)) (λ x b q k. search (rules, tests))
+    ∙ list_all-bare (is_sealed c.args.kind c.args.base.now) c.args.blocks.now

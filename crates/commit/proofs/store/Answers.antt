@@ -4,7 +4,7 @@ use Rattle.commit.proofs.store.Goals as goal
 
 pub store_words-requires : goal.store_words-requires
 store_words-requires c =
-    record { count_bound = c.requires.plan_ok.few; all_fit = rw c.store_head.auto.base c.requires.plan_ok.words; words_ok = c.requires.plan_ok.records }
+    record { all_fit = rw c.store_head.auto.base c.requires.plan_ok.words; words_ok = c.requires.plan_ok.records }
 
 pub returns : goal.returns
 returns c =

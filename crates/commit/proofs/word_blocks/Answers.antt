@@ -1,15 +1,16 @@
-use mathlib.Core.Path.{◌≡◌, sym, ◌∙◌}
-use native.Mathlib.Omega.{arith}
-use lib.ListN.{length}
+use Rattle.std.proofs.Common.{sym, ◌∙◌, arith}
 use Rattle.commit.specs.Touched.{numbers_of}
 use Rattle.commit.specs.TouchedLaws.{word_block_turn, word_blocks_end}
 use Rattle.commit.proofs.word_blocks.Goals as goal
 
-pub loop-i-preserved : goal.loop-i-preserved
-loop-i-preserved c =
-    let b = c.block_with.ensures in
-    (omega arith, omega (arith, c.with-s.ensures.1), rw (c.with-s.ensures.0, b) (sym (word_block_turn c.args.p ((let by_whole : length c.args.p.words ≡ 8 = c.well_formed.1.0.1.1.1.1.1.1.0.1.0.1 in by_whole)) c.requires.0 (numbers_of c.loop-i.s) c.loop-i.i (omega arith)) ∙ c.loop-i.invariant.2))
+pub loop-w-preserved : goal.loop-w-preserved
+loop-w-preserved c = record {
+  few = omega (arith, c.with-s.ensures.1, c.loop-w.invariant.few);
+  left = rw (c.with-s.ensures.0, c.block_with.ensures) (sym (word_block_turn c.args.words.now (numbers_of c.loop-w.s) c.loop-w.w-index c.loop-w-test.true) ∙ c.loop-w.invariant.left);
+}
 
 pub returns : goal.returns
-returns c =
-    (sym (word_blocks_end c.args.p ((let by_whole : length c.args.p.words ≡ 8 = c.well_formed.1.0.1.1.1.1.1.1.0.1.0.1 in by_whole)) c.requires.0 (numbers_of c.loop-i.s) c.loop-i.i (omega arith)) ∙ c.loop-i.invariant.2, omega arith)
+returns c = (
+  sym (word_blocks_end c.args.words.now (numbers_of c.loop-w.s) c.loop-w.w-index c.loop-w-test.false) ∙ c.loop-w.invariant.left,
+  omega (arith, c.loop-w.invariant.few, c.loop-w.auto.w-index-end, c.requires),
+)
