@@ -1,10 +1,9 @@
 -- The tests that ADD-M and DEL-M share, and what they say.
-use Rattle.std.specs.Prelude.{ℕ, ◌≤◌, ◌<◌, ◌≡◌, refl, Bool, true, false, not, ◌&&◌, List, eqb, Result, Ok, Err, IfOk, IsErrAnd}
-use Rattle.std.proofs.Common.{ap, ◌∙◌, arith, eqb-true, eq-eqb, ne_eqb, le-leb}
+use Rattle.std.specs.Prelude.{ℕ, ◌≤◌, ◌<◌, ◌≡◌, refl, Bool, true, false, not, ◌&&◌, List, eqb, Result, IfOk}
+use Rattle.std.proofs.Common.{◌∙◌, arith, eqb-true, eq-eqb, ne_eqb, le-leb}
 use Rattle.std.proofs.lemmas.Bool.{lt-leb}
 use Rattle.std.proofs.lemmas.Result.{IfOk-weaker}
 use Rattle.terms.specs.declared.Refusal.{Refusal}
-use Rattle.terms.specs.Status.{status_of, status_by}
 use Rattle.schema.specs.declared.Entry.{Entry}
 use Rattle.schema.specs.Place.{InSet, in_set}
 use Rattle.records.specs.Records.{is_live}
@@ -40,11 +39,3 @@ stands_as s h = record { stores = λ area. s.stores area ∙ h area; ok = s.ok }
 pub stands_as-ok : (b : List ℕ) (e : Entry) {f g : List ℕ → List Store} (made : Result Plan Refusal) → IfOk made (λ p. StandsFor b e p f) → ((area : List ℕ) → f area ≡ g area)
     → IfOk made (λ p. StandsFor b e p g)
 stands_as-ok b e made s h = IfOk-weaker made _ _ (λ p w. stands_as w h) s
-
--- what a refusal that is passed on says
-pub status_of_err : {A : Type 0} (why : Refusal) (r : Result A Refusal) → IsErrAnd r (λ x. x ≡ why) → status_of r ≡ status_by why
-status_of_err why (Ok x) h = absurd h
-status_of_err why (Err x) h = ap status_by h
-
-pub refused_as : {A : Type 0} (x y : Refusal) → ◌≡◌ {A = Result A Refusal} (Err x) (Err y) → status_by x ≡ status_by y
-refused_as x y e = ap status_of e

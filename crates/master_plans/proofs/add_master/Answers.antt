@@ -1,7 +1,9 @@
-use Rattle.std.proofs.Common.{sym, ◌∙◌}
-use Rattle.terms.specs.declared.Refusal.TheVariants.{Full}
+use Rattle.std.proofs.Common.{ap, sym, ◌∙◌}
+use Rattle.std.proofs.lemmas.Result.{err_from_is_err_and}
+use Rattle.terms.specs.declared.RecordNo.{RecordNo}
+use Rattle.terms.specs.Status.{status_of}
 use Rattle.schema.specs.Numbers.{no_record_up_to}
-use Rattle.master_plans.specs.TestLaws.{stands_as, stands_as-ok, status_of_err, refused_as}
+use Rattle.master_plans.specs.TestLaws.{stands_as, stands_as-ok}
 use Rattle.master_plans.specs.AddLaws.{home-stands, add-home-status, add-home-stores, add-full, add-beside-status, add-beside-stores, free_in, free_apart, free_least}
 use Rattle.master_plans.proofs.add_master.Goals as goal
 
@@ -19,9 +21,8 @@ returns-in_err-free-clause-status_value c =
     let a = c.args in
     let w = c.in_err-free.ensures in
     let f = no_record_up_to a.e.records _ (sym w.ok_part ∙ c.lowest_free.ensures) in
-    status_of_err _ c.from_residual.result c.from_residual.ensures.1
-    ∙ refused_as _ Full (rw w.ok_part at w.value)
-    ∙ add-full a.base.now a.e a.h.0 (sym c.is_live.ensures ∙ c.if-not-is_live.false) f
+    let p = err_from_is_err_and c.from_residual.result c.from_residual.ensures.1 in
+    rw (p.1, p.2) (ap (status_of {A = RecordNo}) (rw w.ok_part at w.value) ∙ add-full a.base.now a.e a.h.0 (sym c.is_live.ensures ∙ c.if-not-is_live.false) f)
 
 pub add_beside-requires-clause-in_set_2 : goal.add_beside-requires-clause-in_set_2
 add_beside-requires-clause-in_set_2 c =
