@@ -53,8 +53,7 @@ pub fn block(base: &[u8], n: BlockNo) -> &[u8]
     ensures { result.now ≡ run base.now (block_at n.0) 512 }
 {
     let at = place_of(n);
-    let end = at + 512;
-    &base[at..end]
+    &base[at..at + 512]
 }
 
 // The sum of the block n's number and its first 127 words, of which `block` has the bytes.
@@ -90,8 +89,7 @@ pub fn put_check(base: &mut [u8], n: BlockNo, v: u32)
     ensures { base.new ≡ set_word base.old (check_at n.0) v }
 {
     let at = place_of(n);
-    let end = at + 512;
-    octets::put_word(&mut base[at..end], 508, v);
+    octets::put_word(&mut base[at..at + 512], 508, v);
 }
 
 // Sets block n's check anew.

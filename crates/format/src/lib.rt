@@ -14,8 +14,7 @@ fn clear(base: &mut [u8], blocks: u32)
     requires { length base.old ≡ blocks * 512 }
     ensures { base.new ≡ zeros (blocks * 512) }
 {
-    let n = base.len();
-    octets::zero(base, 0, n);
+    base.fill(0);
 }
 
 // The check of a block of zeros is the block's number, of whatever kind it is: no word needs to be summed.
@@ -32,10 +31,8 @@ fn set_checks(base: &mut [u8], blocks: u32)
     requires { base.old ≡ zeros (blocks * 512) }
     ensures { (k : Check) → base.new ≡ formatted k blocks }
 {
-    let mut i: u32 = 0;
-    while i < blocks {
+    for i in 0..blocks {
         seal_zeros(base, BlockNo(i));
-        i += 1;
     }
 }
 

@@ -98,10 +98,10 @@ impl Key {
         requires { length s.now ≤ 16 }
         ensures { (key_of result ≡ s.now) × (result.len ≡ length s.now) × (result ≡ key_from s.now) }
     {
-        let mut bytes = [0u8; 16];
+        let mut bytes = [0; 16];
         octets::copy_in(&mut bytes, 0, s);
         Key {
-            bytes: bytes,
+            bytes,
             len: s.len(),
         }
     }
@@ -111,8 +111,15 @@ impl Key {
         requires { (len ≤ 16) × (at + len ≤ length s.now) }
         ensures { (key_of result ≡ run s.now at len) × (result.len ≡ len) × (result ≡ key_from (run s.now at len)) }
     {
-        let end = at + len;
-        Key::of(&s[at..end])
+        Key::of(&s[at..at + len])
+    }
+
+    // The key's own bytes.
+    fn as_bytes(&self) -> &[u8]
+        requires { self.now.len ≤ 16 }
+        ensures { result.now ≡ key_of self.now }
+    {
+        &self.bytes[..self.len]
     }
 
     // The wrapping sum of the key's words.
@@ -120,21 +127,15 @@ impl Key {
         requires { self.len ≤ 16 }
         ensures { result ≡ word_sum (key_of self) }
     {
-        let len = self.len;
-        let bytes = self.bytes;
-        octets::word_sum(&bytes[..len], 0)
+        octets::word_sum(self.as_bytes(), 0)
     }
 
-    // Are the two keys the same, in length too?
+    // Are the two keys the same, in length too? kept: `==` may ask nothing of its two sides, and this asks for their lengths.
     pub fn same(self, other: Key) -> bool
         requires { (self.len ≤ 16) × (other.len ≤ 16) }
         ensures { result ≡ same_bytes (key_of self) (key_of other) }
     {
-        let n = self.len;
-        let m = other.len;
-        let a = self.bytes;
-        let b = other.bytes;
-        octets::same(&a[..n], &b[..m])
+        octets::same(self.as_bytes(), other.as_bytes())
     }
 
     // Does the key stand at `at` of s?
@@ -142,10 +143,7 @@ impl Key {
         requires { (self.len ≤ 16) × (at + self.len ≤ length s.now) }
         ensures { result ≡ same_bytes (key_of self) (run s.now at self.len) }
     {
-        let len = self.len;
-        let end = at + len;
-        let bytes = self.bytes;
-        octets::same(&bytes[..len], &s[at..end])
+        octets::same(self.as_bytes(), &s[at..at + self.len])
     }
 
     // Is every byte of the key a blank?
@@ -153,9 +151,7 @@ impl Key {
         requires { self.len ≤ 16 }
         ensures { result ≡ all_blank (key_of self) }
     {
-        let len = self.len;
-        let bytes = self.bytes;
-        octets::all(&bytes[..len], 32)
+        octets::all(self.as_bytes(), b' ')
     }
 
     // The record that the key's master lives in, or its chain of synonyms begins at, in a set of `records`.
@@ -165,13 +161,6 @@ impl Key {
     {
         RecordNo(1 + self.sum() % records)
     }
-}
-
-// A byte as a word: by value it brings its bound.
-fn wide(x: u8) -> u32
-    ensures { result ≡ x }
-{
-    x as u32
 }
 
 impl Reference {
@@ -195,7 +184,7 @@ impl Reference {
     pub fn link(a: u8, b: u8) -> Reference
         ensures { (result.0 ≡ link_ref a b) × (a < 256) × (b < 256) }
     {
-        Reference(0x4C4B0000 + wide(a) * 256 + wide(b))
+        Reference(u32::from_be_bytes([b'L', b'K', a, b]))
     }
 }
 
@@ -294,44 +283,6 @@ impl Status {
     }
 }
 
-// Five letters as one number, which a `match` can tell apart.
-fn join_five(a: u8, b: u8, c: u8, d: u8, e: u8) -> u64
-    ensures { result ≡ a * 4294967296 + b * 16777216 + c * 65536 + d * 256 + e }
-{
-    (a as u64) * 4294967296
-        + (b as u64) * 16777216
-        + (c as u64) * 65536
-        + (d as u64) * 256
-        + (e as u64)
-}
-
-// The call that five bytes ask for, over a slice, which brings its bytes' bounds.
-fn five_letters(op: &[u8]) -> Operation
-    requires { length op.now ≡ 5 }
-    ensures { result ≡ operation_of op.now }
-{
-    let letters = join_five(op[0], op[1], op[2], op[3], op[4]);
-    match letters {
-        0x46_4F_52_4D_54 => Operation::Formt,
-        0x53_49_4E_4F_4E => Operation::Sinon,
-        0x41_44_44_2D_4D => Operation::AddM,
-        0x44_45_4C_2D_4D => Operation::DelM,
-        0x52_45_41_44_4D => Operation::Readm,
-        0x57_52_49_54_4D => Operation::Writm,
-        0x52_51_4C_4F_43 => Operation::Rqloc,
-        0x52_44_4E_58_54 => Operation::Rdnxt,
-        0x52_45_41_44_56 => Operation::Readv,
-        0x52_45_41_44_52 => Operation::Readr,
-        0x52_45_41_44_44 => Operation::Readd,
-        0x57_52_49_54_56 => Operation::Writv,
-        0x41_44_44_56_43 => Operation::Addvc,
-        0x41_44_44_56_42 => Operation::Addvb,
-        0x41_44_44_56_41 => Operation::Addva,
-        0x44_45_4C_56_44 => Operation::Delvd,
-        _ => Operation::Unknown,
-    }
-}
-
 impl Operation {
     // As `Operation::from`.
     pub fn of(op: &[u8; 5]) -> Operation
@@ -345,7 +296,26 @@ impl From<&[u8; 5]> for Operation {
     ghost from_gives = { λ op call. call ≡ operation_of op.now };
 
     // The call that the five bytes ask for.
+    #[tactic(auto, using(crate::specs::Laws::operation_of_letters, std::proofs::lemmas::Bool::Decides::nat_tests))]
     fn from(op: &[u8; 5]) -> Operation {
-        five_letters(op)
+        match op {
+            b"FORMT" => Operation::Formt,
+            b"SINON" => Operation::Sinon,
+            b"ADD-M" => Operation::AddM,
+            b"DEL-M" => Operation::DelM,
+            b"READM" => Operation::Readm,
+            b"WRITM" => Operation::Writm,
+            b"RQLOC" => Operation::Rqloc,
+            b"RDNXT" => Operation::Rdnxt,
+            b"READV" => Operation::Readv,
+            b"READR" => Operation::Readr,
+            b"READD" => Operation::Readd,
+            b"WRITV" => Operation::Writv,
+            b"ADDVC" => Operation::Addvc,
+            b"ADDVB" => Operation::Addvb,
+            b"ADDVA" => Operation::Addva,
+            b"DELVD" => Operation::Delvd,
+            _ => Operation::Unknown,
+        }
     }
 }
