@@ -26,7 +26,7 @@ fn master_of(s: &[u8], q: usize) -> usize
     requires { (length s.now ≡ 512) × (q < 32) }
     ensures { result ≡ master_of_slot s.now q }
 {
-    fields::wide(s[16 + q / 4 * 48 + 16 + q % 4 * 8 + 2])
+    usize::from(s[16 + q / 4 * 48 + 16 + q % 4 * 8 + 2])
 }
 
 // The counts, one slot further.
@@ -52,14 +52,12 @@ fn counted(s: &[u8]) -> Links
     requires { Formed s.now }
     ensures { Counted s.now (4 * sets_of s.now) result }
 {
-    let slots = 4 * fields::sets(s);
-    let number = [0u8; 32];
-    let total = [0u8; 4];
-    let mut l = Links { number, total };
-    let mut q = 0;
-    while q < slots {
+    let mut l = Links {
+        number: [0; 32],
+        total: [0; 4],
+    };
+    for q in 0..4 * fields::sets(s) {
         l = step(s, q, l);
-        q += 1;
     }
     l
 }
@@ -69,14 +67,14 @@ fn past_key(at: u16, len: u8) -> u16
     requires { at ≤ 1056 }
     ensures { (result ≡ at + (len + 8)) × (result ≤ at + 263) }
 {
-    at + ((len as u16) + 8)
+    at + (u16::from(len) + 8)
 }
 
 // What stands in front of the pointers of a path in a master's record: state, ROOT pointers, key, and n pairs of pointers.
 fn past_links(key: u8, n: u8) -> u16
     ensures { result ≡ 12 + key + 8 * n }
 {
-    12 + (key as u16) + 8 * (n as u16)
+    12 + u16::from(key) + 8 * u16::from(n)
 }
 
 // The length of a key on path j of set i: its master's.
@@ -84,7 +82,7 @@ fn key_length(s: &[u8], i: usize, j: usize) -> u8
     requires { PathAt s.now i j }
     ensures { result ≡ path_key_length s.now i j }
 {
-    let m = fields::wide(s[16 + i * 48 + 16 + j * 8 + 2]);
+    let m = usize::from(s[16 + i * 48 + 16 + j * 8 + 2]);
     s[16 + m * 48 + 12]
 }
 
@@ -95,10 +93,8 @@ fn key_place(s: &[u8], i: usize, j: usize) -> u16
     ensures { result ≡ key_place s.now i j }
 {
     let mut at: u16 = 4;
-    let mut k = 0;
-    while k < j {
+    for k in 0..j {
         at = past_key(at, key_length(s, i, k));
-        k += 1;
     }
     at
 }
@@ -111,10 +107,9 @@ fn path(s: &[u8], i: usize, j: usize, at: u16, n: u8) -> Path
     ensures { result ≡ full_path s.now i j }
 {
     let slot = 16 + i * 48 + 16 + j * 8;
-    let letters = [s[slot], s[slot + 1]];
     let len = key_length(s, i, j);
     Path {
-        letters,
+        letters: [s[slot], s[slot + 1]],
         master: EntryNo(s[slot + 2]),
         len,
         at,
@@ -125,9 +120,8 @@ fn path(s: &[u8], i: usize, j: usize, at: u16, n: u8) -> Path
 fn no_path() -> Path
     ensures { result ≡ empty_path }
 {
-    let letters = [0u8, 0u8];
     Path {
-        letters,
+        letters: [0, 0],
         master: EntryNo(0),
         len: 0,
         at: 0,
@@ -142,15 +136,11 @@ fn paths(s: &[u8], i: usize, l: Links) -> [Path; 4]
     requires counted { Counted s.now (4 * sets_of s.now) l }
     ensures { result ≡ upto (path_from s.now i) 4 }
 {
-    let count = fields::paths(s, i);
     let mut paths = [no_path(); 4];
-    let mut j = 0;
-    while j < count {
-        let q = 4 * i + j;
-        let n = l.number[q];
+    for j in 0..fields::paths(s, i) {
+        let n = l.number[4 * i + j];
         let at = key_place(s, i, j);
         paths[j] = path(s, i, j, at, n);
-        j += 1;
     }
     paths
 }
@@ -173,7 +163,7 @@ fn body(s: &[u8], i: usize, l: Links) -> u16
 fn length_of(body: u16, room: u16) -> u32
     ensures { result ≡ body + room }
 {
-    (body as u32) + (room as u32)
+    u32::from(body) + u32::from(room)
 }
 
 // "floor(508/L) whole records to a block"
@@ -197,7 +187,6 @@ fn set(s: &[u8], i: usize, l: Links, first: u32) -> Entry
     let body = body(s, i, l);
     let size = length_of(body, room);
     let per = per_block(size);
-    let paths = paths(s, i, l);
     Entry {
         name: octets::word(s, at),
         kind: s[at + 4],
@@ -210,14 +199,13 @@ fn set(s: &[u8], i: usize, l: Links, first: u32) -> Entry
         size,
         body,
         first: BlockNo(first),
-        paths,
+        paths: paths(s, i, l),
     }
 }
 
 fn no_entry() -> Entry
     ensures { result ≡ empty_entry }
 {
-    let paths = [no_path(); 4];
     Entry {
         name: 0,
         kind: 0,
@@ -230,7 +218,7 @@ fn no_entry() -> Entry
         size: 0,
         body: 0,
         first: BlockNo(0),
-        paths,
+        paths: [no_path(); 4],
     }
 }
 
@@ -242,18 +230,15 @@ fn laid_out(s: &[u8], l: Links) -> Option<Schema>
     requires counted { Counted s.now (4 * sets_of s.now) l }
     ensures { result ≡ schema_in s.now }
 {
-    let sets = fields::sets(s);
     let mut entries = [no_entry(); 8];
     let mut first: u32 = 0;
-    let mut i = 0;
-    while i < sets {
+    for i in 0..fields::sets(s) {
         let e = set(s, i, l, first);
         if 508 < e.size {
             return None;
         }
         first += blocks_held(e);
         entries[i] = e;
-        i += 1;
     }
     if 4096 < first {
         return None;

@@ -1,7 +1,11 @@
 -- The laws of Rules: how the test of the form goes, and what a schema that keeps its rules has.
-use Rattle.std.specs.Prelude.{ℕ, ◌+◌, ◌/◌, ◌≤◌, ◌<◌, ◌≡◌, Bool, true, false, not, ◌&&◌, ◌||◌, List, [], ◌∷◌, eqb, length, get_or, take, drop}
+use Rattle.std.specs.Prelude.{ℕ, zero, suc, map, ◌+◌, ◌-◌, ◌/◌, ◌≤◌, ◌<◌, ◌≡◌, Bool, true, false, not, ◌&&◌, ◌||◌, List, [], ◌∷◌, eqb, length, get_or, take, drop}
 use Rattle.std.proofs.Math.Path.{refl}
-use Rattle.std.proofs.Common.{sym, ◌∙◌, arith, length-drop, take-suc, get_or-drop, add-one}
+use Rattle.std.proofs.Common.{sym, ap, ◌∙◌, arith, take-suc, add-one, zero-add, take_all}
+use Rattle.std.specs.List.{list_all, range_with_len}
+use Rattle.std.proofs.lemmas.List.Folds.{list_all-append, list_all-map}
+use Rattle.std.proofs.lemmas.List.FromFn.{map-range_with_len_more}
+use Rattle.std.proofs.Math.Nat.{add-sub_cancel_left}
 use Rattle.std.proofs.Math.Bool.{and-false, and-true, and-eq-true_iff}
 use borrow.Author.Tests.{eq-eqb, ne_eqb, not-true, not-false}
 use Rattle.octets.specs.Octets.{byte_at, run, every, is, all_zero, same_bytes}
@@ -14,16 +18,30 @@ use Rattle.schema.specs.Rules.{block_rule, head_rule, clash, is_path_slot, maste
 use Rattle.schema.proofs.FormFacts.{head_ok}
 use Rattle.rules.specs.Parts.{apart, body_rule}
 
--- ---- names for what functions answer
+-- ---- `all` over a range
+
+-- a test of each number of 0..n, in its order, is a test of each number below n
+pub list_all-below : (f : ℕ → Bool) (n : ℕ) → list_all f (range_with_len 0 n) ≡ all_below f n
+unfolding all_below
+list_all-below f zero = refl
+list_all-below f (suc n) =
+    sym (list_all-map (λ b. b) f (range_with_len 0 (suc n)))
+    ∙ ap (list_all (λ b. b)) (rw add-one at (map-range_with_len_more f 0 n n (zero-add n)))
+    ∙ list_all-append (λ b. b) (map f (range_with_len 0 n)) (f n ∷ [])
+    ∙ rw (list_all-map (λ b. b) f (range_with_len 0 n), list_all-below f n, and-true) refl
 
 -- ---- a run of zeros, byte by byte
 
-pub zeros-turn : (s : List ℕ) (at i : ℕ) {ok : Bool} → at + i < length s → ok ≡ all_zero (run s at i)
-    → (ok && eqb (byte_at s (at + i)) 0) ≡ all_zero (run s at (i + 1))
+pub zeros-turn : (xs : List ℕ) (i : ℕ) {ok : Bool} → i < length xs → ok ≡ all_zero (take i xs)
+    → (ok && eqb (byte_at xs i) 0) ≡ all_zero (take (i + 1) xs)
 unfolding every
-zeros-turn s at i h e =
-    let l : i < length (drop at s) = rw length-drop (omega arith) in
-    rw (add-one, take-suc (drop at s) i 0 l, every_append (is 0) (take i (drop at s)) (get_or (drop at s) i 0 ∷ []), get_or-drop at s i 0, and-true, e) refl
+zeros-turn xs i l e =
+    rw (add-one, take-suc xs i 0 l, every_append (is 0) (take i xs) (get_or xs i 0 ∷ []), and-true, e) refl
+
+pub zeros_end : (s : List ℕ) (at n : ℕ) {i : ℕ} {ok : Bool} → length (take (at + n - at) (drop at s)) ≤ i
+    → ok ≡ all_zero (take i (take (at + n - at) (drop at s))) → ok ≡ all_zero (run s at n)
+zeros_end s at n {i} h e =
+    e ∙ rw (take_all i (take (at + n - at) (drop at s)) h, add-sub_cancel_left at n) refl
 
 -- ---- paths that clash
 

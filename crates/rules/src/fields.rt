@@ -3,24 +3,11 @@ ghost use Rattle.std.specs.Prelude.{◌≡◌, ◌+◌, ◌<◌, length};
 ghost use Rattle.schema.specs.Fields.{masters_of, sets_of, count_of};
 ghost use Rattle.schema.specs.Rules.{is_path_slot};
 
-pub fn wide(x: u8) -> usize
-    ensures { result ≡ x }
-{
-    x as usize
-}
-
-// A byte that is a parameter brings its bound, so the sum is seen to fit.
-fn sum(a: u8, b: u8) -> usize
-    ensures { result ≡ a + b }
-{
-    (a as usize) + (b as usize)
-}
-
 pub fn masters(s: &[u8]) -> usize
     requires { length s.now ≡ 512 }
     ensures { result ≡ masters_of s.now }
 {
-    wide(s[1])
+    usize::from(s[1])
 }
 
 // How many sets there are.
@@ -28,7 +15,7 @@ pub fn sets(s: &[u8]) -> usize
     requires { length s.now ≡ 512 }
     ensures { result ≡ sets_of s.now }
 {
-    sum(s[1], s[2])
+    usize::from(s[1]) + usize::from(s[2])
 }
 
 // How many paths entry i has.
@@ -36,7 +23,7 @@ pub fn paths(s: &[u8], i: usize) -> usize
     requires { (length s.now ≡ 512) × (i < 8) }
     ensures { result ≡ count_of s.now i }
 {
-    wide(s[16 + i * 48 + 5])
+    usize::from(s[16 + i * 48 + 5])
 }
 
 // Does slot q hold a path?

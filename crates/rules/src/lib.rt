@@ -1,6 +1,6 @@
 // Every rule that document 01, "Blocks and the schema", makes for the schema's form: each function answers what one definition of
 // specs/Rules.antt says. `s` is the schema buffer, `i` an entry's number, `j` a slot's number within its entry, and `p` and `q` number
-// the slots of all entries in schema order. Tests are joined by `&` and `|`, with no early way out: a schema that is in use breaks none.
+// the slots of all entries in schema order. Tests of bytes are joined by `&` and `|`, with no early way out: a schema that is in use breaks none.
 #![tactic(auto)]
 
 ghost use Rattle.std.specs.Prelude.{◌≡◌, cond, ◌+◌, ◌*◌, ◌≤◌, ◌<◌, ltb, length};
@@ -19,19 +19,17 @@ pub mod fields;
 fn capital_or_digit(x: u8) -> bool
     ensures { result ≡ is_capital_or_digit x }
 {
-    ((65 <= x) & (x <= 90)) | ((48 <= x) & (x <= 57))
+    x.is_ascii_uppercase() | x.is_ascii_digit()
 }
 
-// Are the n bytes from `at` on zero? With no way out of the loop the compiler tests many bytes at once.
+// Are the n bytes from `at` on zero? kept: a loop with no way out, of which the compiler tests many bytes at once, and not `all`.
 fn zeros(s: &[u8], at: usize, n: usize) -> bool
     requires { at + n ≤ length s.now }
     ensures { result ≡ all_zero (run s.now at n) }
 {
     let mut ok = true;
-    let mut i = 0;
-    while i < n {
-        ok = ok & (s[at + i] == 0);
-        i += 1;
+    for &b in &s[at..at + n] {
+        ok &= b == 0;
     }
     ok
 }
@@ -41,9 +39,7 @@ fn same_run(s: &[u8], a: usize, b: usize, n: usize) -> bool
     requires { (a + n ≤ length s.now) × (b + n ≤ length s.now) }
     ensures { result ≡ same_bytes (run s.now a n) (run s.now b n) }
 {
-    let c = a + n;
-    let d = b + n;
-    octets::same(&s[a..c], &s[b..d])
+    octets::same(&s[a..a + n], &s[b..b + n])
 }
 
 // Is the schema's check true? It is of the kind that its own byte 0 asks for.
@@ -71,7 +67,7 @@ fn name(s: &[u8], i: usize) -> bool
 {
     let at = 16 + i * 48;
     let first = s[at];
-    ((65 <= first) & (first <= 90))
+    first.is_ascii_uppercase()
         & capital_or_digit(s[at + 1])
         & capital_or_digit(s[at + 2])
         & capital_or_digit(s[at + 3])
@@ -141,13 +137,7 @@ fn slots(s: &[u8], i: usize) -> bool
     requires { (length s.now ≡ 512) × (i < 8) }
     ensures { result ≡ all_below (slot_rule s.now i) 4 }
 {
-    let mut ok = true;
-    let mut j = 0;
-    while j < 4 {
-        ok = ok & slot(s, i, j);
-        j += 1;
-    }
-    ok
+    (0..4).all(|j| slot(s, i, j))
 }
 
 // A used entry; "13..15 zero".
@@ -173,13 +163,7 @@ fn entries(s: &[u8]) -> bool
     requires { length s.now ≡ 512 }
     ensures { result ≡ all_below (entry_rule s.now) 8 }
 {
-    let mut ok = true;
-    let mut i = 0;
-    while i < 8 {
-        ok = ok & entry(s, i);
-        i += 1;
-    }
-    ok
+    (0..8).all(|i| entry(s, i))
 }
 
 // ".. and the rest up to 507": the eight entries end at 400.
@@ -195,13 +179,7 @@ fn new_name(s: &[u8], k: usize) -> bool
     requires { (length s.now ≡ 512) × (k < 8) }
     ensures { result ≡ all_below (older s.now k) k }
 {
-    let mut ok = true;
-    let mut i = 0;
-    while i < k {
-        ok = ok & !same_run(s, 16 + i * 48, 16 + k * 48, 4);
-        i += 1;
-    }
-    ok
+    (0..k).all(|i| !same_run(s, 16 + i * 48, 16 + k * 48, 4))
 }
 
 // "name .. (.. all distinct)"
@@ -209,14 +187,7 @@ fn names(s: &[u8]) -> bool
     requires { (length s.now ≡ 512) × (sets_of s.now ≤ 8) }
     ensures { result ≡ names_rule s.now }
 {
-    let sets = fields::sets(s);
-    let mut ok = true;
-    let mut k = 0;
-    while k < sets {
-        ok = ok & new_name(s, k);
-        k += 1;
-    }
-    ok
+    (0..fields::sets(s)).all(|k| new_name(s, k))
 }
 
 // Do two paths of one set, or to one master, share xx?
@@ -237,16 +208,7 @@ fn new_letters(s: &[u8], q: usize) -> bool
     requires { (length s.now ≡ 512) × (q < 32) }
     ensures { result ≡ all_below (apart s.now q) q }
 {
-    if !fields::used(s, q) {
-        return true;
-    }
-    let mut ok = true;
-    let mut p = 0;
-    while p < q {
-        ok = ok & !clashes(s, p, q);
-        p += 1;
-    }
-    ok
+    !fields::used(s, q) || (0..q).all(|p| !clashes(s, p, q))
 }
 
 // "No two paths of one variable set share xx; no two paths to one master do."
@@ -254,14 +216,7 @@ fn letters(s: &[u8]) -> bool
     requires { (length s.now ≡ 512) × (sets_of s.now ≤ 8) }
     ensures { result ≡ letters_rule s.now }
 {
-    let slots = 4 * fields::sets(s);
-    let mut ok = true;
-    let mut q = 0;
-    while q < slots {
-        ok = ok & new_letters(s, q);
-        q += 1;
-    }
-    ok
+    (0..4 * fields::sets(s)).all(|q| new_letters(s, q))
 }
 
 // What is left where the buffer is one block with a true check and a head that says how many entries there are.

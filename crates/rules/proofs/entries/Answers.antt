@@ -1,17 +1,13 @@
-use Rattle.octets.specs.Below.{all_below}
-use Rattle.octets.specs.BelowLaws.{joined, joined-all}
+-- `rules::entries` meets its contract: the rule of each entry below 8.
+use mathlib.Core.Path.{◌∙◌, refl}
+use Rattle.std.proofs.Common.{tests, rules}
+use Rattle.std.proofs.lemmas.Iterator.{YieldsList-from_range}
+use Rattle.std.proofs.lemmas.Iterator.Search.{all_from_yields_List}
 use Rattle.schema.specs.Rules.{entry_rule}
-use borrow.Author.Rules.{rules}
+use Rattle.rules.specs.RulesLaws.{list_all-below}
 use Rattle.rules.proofs.entries.Goals as goal
-
-pub loop-i-init : goal.loop-i-init
-unfolding all_below
-loop-i-init c = search rules
-
-pub loop-i-preserved : goal.loop-i-preserved
-loop-i-preserved c =
-    (search rules, joined (entry_rule c.args.s.now) c.loop-i.i c.loop-i.invariant.1 c.entry-ok.ensures)
 
 pub returns : goal.returns
 returns c =
-    joined-all (entry_rule c.args.s.now) 8 c.loop-i.i c.loop-i.invariant.0 c.loop-i-test.false c.loop-i.invariant.1
+    let f = entry_rule c.args.s.now in
+    all_from_yields_List f _ _ _ c.all.ensures.ran (YieldsList-from_range 0 8 8 refl refl) (λ x b q k. search (rules, tests)) ∙ list_all-below f 8

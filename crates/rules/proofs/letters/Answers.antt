@@ -1,21 +1,20 @@
+-- `rules::letters` meets its contract: each slot in use has new letters.
+use mathlib.Core.Path.{◌∙◌, refl}
+use Rattle.std.proofs.Common.{tests, rules, ℕ}
+use Prim.Native.Nat.{◌*◌}
+use Rattle.std.proofs.Math.Nat.{sub-zero}
+use Rattle.std.proofs.lemmas.Iterator.{YieldsList-from_range}
+use Rattle.std.proofs.lemmas.Iterator.Search.{all_from_yields_List}
 use Rattle.octets.specs.Below.{all_below}
-use Rattle.octets.specs.BelowLaws.{joined, joined-all}
 use Rattle.schema.specs.Rules.{letters_rule}
 use Rattle.rules.specs.Parts.{apart}
-use borrow.Author.Rules.{rules}
+use Rattle.rules.specs.RulesLaws.{list_all-below}
 use Rattle.rules.proofs.letters.Goals as goal
-
-pub loop-q-init : goal.loop-q-init
-unfolding all_below
-loop-q-init c = search rules
-
-pub loop-q-preserved : goal.loop-q-preserved
-loop-q-preserved c =
-    let s = c.args.s.now in
-    (search rules, joined (λ n. all_below (apart s n) n) c.loop-q.q c.loop-q.invariant.1 c.new_letters-ok.ensures)
 
 pub returns : goal.returns
 unfolding letters_rule
 returns c =
     let s = c.args.s.now in
-    joined-all (λ n. all_below (apart s n) n) _ c.loop-q.q (rw c.sets-slots.ensures at c.loop-q.invariant.0) (rw c.sets-slots.ensures at c.loop-q-test.false) c.loop-q.invariant.1
+    let f = λ (n : ℕ). all_below (apart s n) n in
+    let n = 4 * c.sets.result in
+    all_from_yields_List f _ _ _ c.all.ensures.ran (YieldsList-from_range 0 n n refl (sub-zero _)) (λ x b q k. search (rules, tests)) ∙ rw (← c.sets.ensures) (list_all-below f n)

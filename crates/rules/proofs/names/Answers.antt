@@ -1,21 +1,18 @@
+-- `rules::names` meets its contract: each entry in use has a new name.
+use mathlib.Core.Path.{◌∙◌, refl}
+use Rattle.std.proofs.Common.{tests, rules, ℕ}
+use Rattle.std.proofs.Math.Nat.{sub-zero}
+use Rattle.std.proofs.lemmas.Iterator.{YieldsList-from_range}
+use Rattle.std.proofs.lemmas.Iterator.Search.{all_from_yields_List}
 use Rattle.octets.specs.Below.{all_below}
-use Rattle.octets.specs.BelowLaws.{joined, joined-all}
 use Rattle.schema.specs.Rules.{names_rule}
 use Rattle.rules.specs.Parts.{older}
-use borrow.Author.Rules.{rules}
+use Rattle.rules.specs.RulesLaws.{list_all-below}
 use Rattle.rules.proofs.names.Goals as goal
-
-pub loop-k-init : goal.loop-k-init
-unfolding all_below
-loop-k-init c = search rules
-
-pub loop-k-preserved : goal.loop-k-preserved
-loop-k-preserved c =
-    let s = c.args.s.now in
-    (search rules, joined (λ n. all_below (older s n) n) c.loop-k.k c.loop-k.invariant.1 c.new_name-ok.ensures)
 
 pub returns : goal.returns
 unfolding names_rule
 returns c =
     let s = c.args.s.now in
-    joined-all (λ n. all_below (older s n) n) _ c.loop-k.k (rw c.sets-sets.ensures at c.loop-k.invariant.0) (rw c.sets-sets.ensures at c.loop-k-test.false) c.loop-k.invariant.1
+    let f = λ (n : ℕ). all_below (older s n) n in
+    all_from_yields_List f _ _ _ c.all.ensures.ran (YieldsList-from_range 0 c.sets.result c.sets.result refl (sub-zero _)) (λ x b q k. search (rules, tests)) ∙ rw (← c.sets.ensures) (list_all-below f c.sets.result)

@@ -1,27 +1,19 @@
+-- `rules::new_letters` meets its contract: a slot without a path is apart from all; no path below q clashes with that of slot q.
+use mathlib.Core.Path.{◌∙◌, refl}
+use Rattle.std.proofs.Common.{tests, rules}
+use Rattle.std.proofs.Math.Nat.{sub-zero}
+use Rattle.std.proofs.lemmas.Iterator.{YieldsList-from_range}
+use Rattle.std.proofs.lemmas.Iterator.Search.{all_from_yields_List}
 use mathlib.Core.Path.{ap}
 use mathlib.Core.Bool.{not}
-use Rattle.octets.specs.Below.{all_below}
-use Rattle.octets.specs.BelowLaws.{joined, joined-all}
-use Rattle.rules.specs.RulesLaws.{unused_apart}
 use Rattle.rules.specs.Parts.{apart}
-use borrow.Author.Rules.{rules}
+use Rattle.rules.specs.RulesLaws.{list_all-below, unused_apart}
 use Rattle.rules.proofs.new_letters.Goals as goal
 
 pub returns-then-not-used : goal.returns-then-not-used
-returns-then-not-used c =
-    let a = c.args in
-    unused_apart a.s.now a.q c.used.ensures (ap not c.if-not-used.true)
+returns-then-not-used c = ap not c.if-not-used.true ∙ unused_apart c.args.s.now c.args.q c.used.ensures (ap not c.if-not-used.true)
 
-pub loop-p-init : goal.loop-p-init
-unfolding all_below
-loop-p-init c = search rules
-
-pub loop-p-preserved : goal.loop-p-preserved
-loop-p-preserved c =
-    let a = c.args in
-    (search rules, joined (apart a.s.now a.q) c.loop-p.p c.loop-p.invariant.1 (ap not c.clashes.ensures))
-
-pub returns : goal.returns
-returns c =
-    let a = c.args in
-    joined-all (apart a.s.now a.q) a.q c.loop-p.p c.loop-p.invariant.0 c.loop-p-test.false c.loop-p.invariant.1
+pub returns-else-not-used : goal.returns-else-not-used
+returns-else-not-used c =
+    let f = apart c.args.s.now c.args.q in
+    all_from_yields_List f _ _ _ c.all.ensures.ran (YieldsList-from_range 0 c.args.q c.args.q refl (sub-zero _)) (λ x b q k. search (rules, tests)) ∙ list_all-below f c.args.q

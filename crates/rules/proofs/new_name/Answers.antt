@@ -1,21 +1,14 @@
-use mathlib.Core.Bool.{not}
-use mathlib.Core.Path.{ap}
-use Rattle.octets.specs.Below.{all_below}
-use Rattle.octets.specs.BelowLaws.{joined, joined-all}
+-- `rules::new_name` meets its contract: no entry below k has entry k's name.
+use mathlib.Core.Path.{◌∙◌, refl}
+use Rattle.std.proofs.Common.{tests, rules}
+use Rattle.std.proofs.Math.Nat.{sub-zero}
+use Rattle.std.proofs.lemmas.Iterator.{YieldsList-from_range}
+use Rattle.std.proofs.lemmas.Iterator.Search.{all_from_yields_List}
 use Rattle.rules.specs.Parts.{older}
-use borrow.Author.Rules.{rules}
+use Rattle.rules.specs.RulesLaws.{list_all-below}
 use Rattle.rules.proofs.new_name.Goals as goal
-
-pub loop-i-init : goal.loop-i-init
-unfolding all_below
-loop-i-init c = search rules
-
-pub loop-i-preserved : goal.loop-i-preserved
-loop-i-preserved c =
-    let a = c.args in
-    (search rules, joined (older a.s.now a.k) c.loop-i.i c.loop-i.invariant.1 (ap not c.same_run.ensures))
 
 pub returns : goal.returns
 returns c =
-    let a = c.args in
-    joined-all (older a.s.now a.k) a.k c.loop-i.i c.loop-i.invariant.0 c.loop-i-test.false c.loop-i.invariant.1
+    let f = older c.args.s.now c.args.k in
+    all_from_yields_List f _ _ _ c.all.ensures.ran (YieldsList-from_range 0 c.args.k c.args.k refl (sub-zero _)) (λ x b q k. search (rules, tests)) ∙ list_all-below f c.args.k

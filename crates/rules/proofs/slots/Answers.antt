@@ -1,19 +1,13 @@
-use Rattle.octets.specs.Below.{all_below}
-use Rattle.octets.specs.BelowLaws.{joined, joined-all}
+-- `rules::slots` meets its contract: the rule of each slot below 4.
+use mathlib.Core.Path.{◌∙◌, refl}
+use Rattle.std.proofs.Common.{tests, rules}
+use Rattle.std.proofs.lemmas.Iterator.{YieldsList-from_range}
+use Rattle.std.proofs.lemmas.Iterator.Search.{all_from_yields_List}
 use Rattle.schema.specs.Rules.{slot_rule}
-use borrow.Author.Rules.{rules}
+use Rattle.rules.specs.RulesLaws.{list_all-below}
 use Rattle.rules.proofs.slots.Goals as goal
-
-pub loop-j-init : goal.loop-j-init
-unfolding all_below
-loop-j-init c = search rules
-
-pub loop-j-preserved : goal.loop-j-preserved
-loop-j-preserved c =
-    let a = c.args in
-    (search rules, joined (slot_rule a.s.now a.i) c.loop-j.j c.loop-j.invariant.1 c.slot-ok.ensures)
 
 pub returns : goal.returns
 returns c =
-    let a = c.args in
-    joined-all (slot_rule a.s.now a.i) 4 c.loop-j.j c.loop-j.invariant.0 c.loop-j-test.false c.loop-j.invariant.1
+    let f = slot_rule c.args.s.now c.args.i in
+    all_from_yields_List f _ _ _ c.all.ensures.ran (YieldsList-from_range 0 4 4 refl refl) (λ x b q k. search (rules, tests)) ∙ list_all-below f 4

@@ -1,20 +1,14 @@
-use mathlib.Core.Path.{◌≡◌}
-use native.Mathlib.Omega.{arith}
+use mathlib.Core.Path.{refl}
 use Rattle.octets.specs.Octets.{every}
-use Rattle.rules.specs.RulesLaws.{zeros-turn}
-use borrow.Author.Rules.{rules}
+use Rattle.rules.specs.RulesLaws.{zeros-turn, zeros_end}
 use Rattle.rules.proofs.zeros.Goals as goal
 
-pub loop-i-init : goal.loop-i-init
+pub loop-b-init : goal.loop-b-init
 unfolding every
-loop-i-init c = search rules
+loop-b-init c = refl
 
-pub loop-i-preserved : goal.loop-i-preserved
-loop-i-preserved c =
-    let a = c.args in
-    (search rules, zeros-turn a.s.now a.at c.loop-i.i (omega arith) c.loop-i.invariant.1)
+pub loop-b-preserved : goal.loop-b-preserved
+loop-b-preserved c = zeros-turn _ c.loop-b.b-index c.loop-b-test.true c.loop-b.invariant
 
 pub returns : goal.returns
-returns c =
-    let e : c.loop-i.i ≡ c.args.n = omega arith in
-    rw e at c.loop-i.invariant.1
+returns c = zeros_end c.args.s.now c.args.at c.args.n c.loop-b-test.false c.loop-b.invariant

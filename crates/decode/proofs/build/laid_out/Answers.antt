@@ -2,39 +2,33 @@ use mathlib.Core.Path.{◌≡◌}
 use native.Mathlib.Omega.{arith}
 use Rattle.decode.specs.DecodeLaws.{LaidOut, laid_none, laid_next, laid-all, blocks_ready, too_long, too_many}
 use Rattle.schema.specs.Fields.{sets_of}
-use borrow.Author.Rules.{rules}
 use Rattle.decode.proofs.build.laid_out.Goals as goal
 
 pub loop-i-init : goal.loop-i-init
-loop-i-init c =
-    (search rules, rw c.sets-sets.ensures (omega (arith, c.requires.formed.head)), laid_none c.args.s.now c.no_entry-entries.ensures)
-
-pub set-e-requires : goal.set-e-requires
-set-e-requires c =
-    record { formed = c.requires.formed; i_bound = rw c.sets-sets.ensures at c.loop-i-test.true; counted = c.requires.counted; first_value = c.loop-i.invariant.2.next }
+loop-i-init c = laid_none c.args.s.now c.no_entry-entries.ensures
 
 pub returns-then-e-gt508 : goal.returns-then-e-gt508
 returns-then-e-gt508 c =
-    too_long c.args.s.now c.loop-i.i c.set-e.ensures (rw c.sets-sets.ensures at c.loop-i-test.true) (omega arith)
+    too_long c.args.s.now c.loop-i.i c.set-e.ensures (omega arith) (omega arith)
 
 pub blocks_held-first-requires : goal.blocks_held-first-requires
 blocks_held-first-requires c =
-    blocks_ready c.args.s.now c.loop-i.i c.set-e.ensures c.requires.formed (rw c.sets-sets.ensures at c.loop-i-test.true) (omega arith)
+    blocks_ready c.args.s.now c.loop-i.i c.set-e.ensures c.requires.formed (omega arith) (omega arith)
 
 pub loop-i-preserved : goal.loop-i-preserved
 loop-i-preserved c =
-    (search rules, search rules, laid_next c.args.s.now c.loop-i.i c.set-e.ensures c.loop-i.invariant.2 (omega arith) (omega arith) c.blocks_held-first.ensures)
+    laid_next c.args.s.now c.loop-i.i c.set-e.ensures c.loop-i.invariant (omega (arith, c.requires.formed.head)) (omega arith) c.blocks_held-first.ensures
 
 pub returns-then-first-gt4096 : goal.returns-then-first-gt4096
 returns-then-first-gt4096 c =
     let s = c.args.s.now in
     let e : c.loop-i.i ≡ sets_of s = omega arith in
-    let d : LaidOut s (sets_of s) c.loop-i.first c.loop-i.entries = rw e at c.loop-i.invariant.2 in
+    let d : LaidOut s (sets_of s) c.loop-i.first c.loop-i.entries = rw e at c.loop-i.invariant in
     too_many s d (omega arith)
 
 pub returns : goal.returns
 returns c =
     let s = c.args.s.now in
     let e : c.loop-i.i ≡ sets_of s = omega arith in
-    let d : LaidOut s (sets_of s) c.loop-i.first c.loop-i.entries = rw e at c.loop-i.invariant.2 in
+    let d : LaidOut s (sets_of s) c.loop-i.first c.loop-i.entries = rw e at c.loop-i.invariant in
     laid-all s d c.requires.s_value (omega arith)
