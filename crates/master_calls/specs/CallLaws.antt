@@ -1,7 +1,7 @@
 -- How each call on masters ends, from what its code has read: the search's answer, the record that is given, the plan that is committed.
-use Rattle.std.specs.Prelude.{ℕ, ◌≡◌, List, length}
+use Rattle.std.specs.Prelude.{ℕ, ◌≡◌, List, [], length, Result, Ok, Err}
 use Rattle.std.proofs.Math.Path.{refl, ap}
-use Rattle.std.proofs.Common.{sym, ◌∙◌, arith}
+use Rattle.std.proofs.Common.{sym, ◌∙◌, ⊎_elim, arith}
 use Rattle.terms.specs.Terms.{home_of}
 use Rattle.terms.specs.declared.Status.{Status}
 use Rattle.terms.specs.declared.Status.TheVariants.{Done, Mrnf, Dupm, Imdl, Full, Damg}
@@ -13,16 +13,17 @@ use Rattle.schema.specs.declared.Schema.{Schema}
 use Rattle.records.specs.Areas.{area_length}
 use Rattle.plans.specs.declared.Head.{Head}
 use Rattle.plans.specs.declared.Head.TheVariants.{Nothing, Body, Master, Variable, Stranger, Synonym}
-use Rattle.plans.specs.declared.Planned.{Planned}
+use Rattle.plans.specs.declared.Plan.{Plan}
 use Rattle.blocks.specs.Blocks.{check_by}
 use Rattle.plans.specs.Plan.{Store, store_all, seal_all, committed}
 use Rattle.plans.specs.Stores.{plan_stores}
 use Rattle.plans.specs.PlanOk.{AreaOk}
-use Rattle.plans.specs.Made.{body_planned}
+use Rattle.plans.specs.Made.{body_plan}
 use Rattle.plans.proofs.BodyLaws.{body_stores}
 use Rattle.masters.specs.declared.Found.{Found}
 use Rattle.masters.specs.declared.Found.TheVariants.{At, Missing, Damaged}
-use Rattle.masters.specs.Find.{find, home_in}
+use Rattle.masters.specs.Find.{find, home_in, master_of}
+use Rattle.masters.proofs.FindLaws.{master_found, master_refused}
 use Rattle.masters.specs.Root.{add_master_full, add_master_damaged, add_master_stores, del_master_damaged, del_master_stores}
 use Rattle.points.specs.Chains.{has_points}
 use Rattle.master_plans.specs.Status.{add_master_status, del_master_status}
@@ -32,18 +33,27 @@ use Rattle.calls.specs.Scene.{Scene, scene_under}
 use Rattle.calls.specs.Reply.{master_in, home_of_key, given, reference_after, area_after, stores_of, base_after}
 use Rattle.calls.specs.Outcome.{done, answered}
 use Rattle.calls.specs.Ladder.{rest_rungs, refusal}
-use Rattle.terms.specs.Status.{first_of}
-use Rattle.terms.specs.Laws.{two_first}
+use Rattle.terms.specs.Status.{first_of, status_by}
+use Rattle.terms.specs.declared.Refusal.{Refusal}
+use Rattle.terms.specs.Laws.{two_first, refusal_no_done}
 use Rattle.calls.proofs.RestLaws.{storable, rest-readm, rest-writm, rest-addm, rest-delm, rest_rqloc}
 use Rattle.ends.specs.AsksLaws.{found_among, seek-passes}
 use Rattle.ends.specs.Ends.{Ends, gave, settled}
-use Rattle.ends.specs.EndsLaws.{gave-answers, settled-answers}
+use Rattle.ends.specs.EndsLaws.{gave-answers, settled-answers, settled-err}
 use Rattle.master_calls.specs.Masters.{NamedCall, AnswersOn, AnswersIn}
 use Rattle.master_calls.specs.MasterLaws.{readm-call, writm-call, delm-call, seek-none, damage_ends, missing_ends, found-ends, add_damage_ends, there-ends, absent-ends}
 
 -- what the search in the code found is what the search for the key finds
 pub told-found : {f : Found} (b : List ℕ) (e : Entry) (key k : List ℕ) (g : Found) → f ≡ find b e k → k ≡ key → f ≡ g → find b e key ≡ g
 told-found b e key k g h l w = rw (← l) (sym h ∙ w)
+
+-- the same of the named master: why the call ends there, or the record
+pub told-refused : {f : Result RecordNo Refusal} {why : Refusal} (b : List ℕ) (e : Entry) (key k : List ℕ) → f ≡ master_of (find b e k) → k ≡ key → f ≡ Err why
+    → master_of (find b e key) ≡ Err why
+told-refused b e key k h l w = rw (← l) (sym h ∙ w)
+
+pub told-at : {f : Result RecordNo Refusal} {m : RecordNo} (b : List ℕ) (e : Entry) (key k : List ℕ) → f ≡ master_of (find b e k) → k ≡ key → f ≡ Ok m → find b e key ≡ At m
+told-at {m = m} b e key k h l w = (master_found (find b e key) m).0 (rw (← l) (sym h ∙ w))
 
 -- ---- refused by the search
 
@@ -53,6 +63,11 @@ module _ (o : Operation) (k : NamedCall o) (e : Entry) (r : ℕ) (key area b : L
 
   pub by_absence : find b e key ≡ Missing → AnswersOn o e r key area b Mrnf r area b
   by_absence g = record { told = λ t c n h at. missing_ends t c n o e r key area b k h at g }
+
+  pub by_search : {why : Refusal} → master_of (find b e key) ≡ Err why → AnswersOn o e r key area b (status_by why) r area b
+  by_search {why} h =
+      ⊎_elim (λ (w : (find b e key ≡ Damaged) × (status_by why ≡ Damg)). rw w.1 (by_damage w.0))
+      (λ (w : (find b e key ≡ Missing) × (status_by why ≡ Mrnf)). rw w.1 (by_absence w.0)) (master_refused (find b e key) why h)
 
 -- ---- READM
 
@@ -89,16 +104,16 @@ any_head Synonym e area l = tt
 -- ---- WRITM
 
 module _ (e : Entry) (r : ℕ) (key area b : List ℕ) (m : RecordNo) where
-  writm_settles : (x : Scene) (c : Call) (p : Planned) → p ≡ body_planned m → x.operation ≡ Writm → x.schema.edition ≡ e.edition → x.entry ≡ e → x.found ≡ At m → c.base ≡ b → c.area ≡ area → c.reference ≡ r
-      → answered x c (refusal x c (rest_rungs x)) ≡ settled (check_by e.edition) p.status b (plan_stores b e area p.plan) r r area
+  writm_settles : (x : Scene) (c : Call) (p : Plan) → p ≡ body_plan m → x.operation ≡ Writm → x.schema.edition ≡ e.edition → x.entry ≡ e → x.found ≡ At m → c.base ≡ b → c.area ≡ area → c.reference ≡ r
+      → answered x c (refusal x c (rest_rungs x)) ≡ settled (check_by e.edition) Done b (plan_stores b e area p) r r area
   unfolding given reference_after area_after stores_of
   writm_settles x c p d o v w f hb ha hr =
       rw (d, body_stores e area m b, ← hb, ← ha, ← hr, ← w)
       (settled-answers x c _ (refusal x c (rest_rungs x)) Done _ c.reference (rw w v) (rest-writm x c o)
       (λ _. rw (o, f) refl) (λ _. rw o refl) (rw o refl) (rw o refl))
 
-  pub writm-ends : {p : Planned} {s : Status} {q : ℕ} {after : List ℕ} → find b e key ≡ At m → p ≡ body_planned m
-      → Ends (settled (check_by e.edition) p.status b (plan_stores b e area p.plan) r r area) s q area after → AnswersOn Writm e r key area b s q area after
+  pub writm-ends : {p : Plan} {s : Status} {q : ℕ} {after : List ℕ} → find b e key ≡ At m → p ≡ body_plan m
+      → Ends (settled (check_by e.edition) Done b (plan_stores b e area p) r r area) s q area after → AnswersOn Writm e r key area b s q area after
   writm-ends {p = p} g d w =
       record {
         told = λ t c n h at.
@@ -127,16 +142,25 @@ module _ (e : Entry) (r : ℕ) (key area b : List ℕ) where
       ∙ ap (λ v. first_of v (storable x c)) (sym v))
       (λ d. rw (o, w, m, hk, hb, ha) (sym (ws d))) (λ _. rw o refl) (rw o refl) (rw o refl))
 
-  pub addm-ends : (p : Planned) {home : ℕ} {s : Status} {q : ℕ} {after : List ℕ} → find b e key ≡ Missing → home ≡ home_in e key → p.status ≡ add_master_status b e home
-      → (p.status ≡ Done → plan_stores b e area p.plan ≡ add_master_stores b e home area)
-      → Ends (settled (check_by e.edition) p.status b (plan_stores b e area p.plan) r r area) s q area after → AnswersOn AddM e r key area b s q area after
-  addm-ends p g l us ws w =
+  -- it is not there: u is what the tests of its place came to, xs the stores
+  addm-told : (u : Status) (xs : List Store) {s : Status} {q : ℕ} {after : List ℕ} → find b e key ≡ Missing → u ≡ add_master_status b e (home_in e key)
+      → (u ≡ Done → xs ≡ add_master_stores b e (home_in e key) area)
+      → Ends (settled (check_by e.edition) u b xs r r area) s q area after → AnswersOn AddM e r key area b s q area after
+  addm-told u xs g us ws w =
       record {
         told = λ t c n h at.
             absent-ends t c n e r key area b h at _ g
-            (addm_settles (scene_under t c) c p.status (plan_stores b e area p.plan) (rw l at us) (rw l at ws) (operation-here t c ∙ h.operation) at.edition at.entry at.masters
-            h.key h.base h.area h.reference) w;
+            (addm_settles (scene_under t c) c u xs us ws (operation-here t c ∙ h.operation) at.edition at.entry at.masters h.key h.base h.area h.reference) w;
       }
+
+  pub addm-refused : (why : Refusal) {home : ℕ} → find b e key ≡ Missing → home ≡ home_in e key → status_by why ≡ add_master_status b e home
+      → AnswersOn AddM e r key area b (status_by why) r area b
+  addm-refused why g l us = addm-told (status_by why) [] g (rw l at us) (refusal_no_done why) (settled-err (check_by e.edition) (status_by why) b [] r r area why refl)
+
+  pub addm-ends : (p : Plan) {home : ℕ} {s : Status} {q : ℕ} {after : List ℕ} → find b e key ≡ Missing → home ≡ home_in e key → Done ≡ add_master_status b e home
+      → plan_stores b e area p ≡ add_master_stores b e home area
+      → Ends (settled (check_by e.edition) Done b (plan_stores b e area p) r r area) s q area after → AnswersOn AddM e r key area b s q area after
+  addm-ends p g l us ws w = addm-told Done (plan_stores b e area p) g (rw l at us) (λ _. rw l at ws) w
 
 -- ---- DEL-M
 
@@ -146,6 +170,11 @@ module _ (t : Schema) (n : ℕ) (e : Entry) (r : ℕ) (key area b : List ℕ) wh
 
   pub del_by_absence : find b e key ≡ Missing → AnswersIn t n DelM e r key area b Mrnf r area b
   del_by_absence g = record { told = λ c h at. missing_ends t c n DelM e r key area b delm-call h at g }
+
+  pub del_by_search : {why : Refusal} → master_of (find b e key) ≡ Err why → AnswersIn t n DelM e r key area b (status_by why) r area b
+  del_by_search {why} h =
+      ⊎_elim (λ (w : (find b e key ≡ Damaged) × (status_by why ≡ Damg)). rw w.1 (del_by_damage w.0))
+      (λ (w : (find b e key ≡ Missing) × (status_by why ≡ Mrnf)). rw w.1 (del_by_absence w.0)) (master_refused (find b e key) why h)
 
   delm_settles : (x : Scene) (c : Call) (m : RecordNo) (u : Status) (xs : List Store) → u ≡ del_master_status t b n e (home_in e key) m.0
       → (u ≡ Done → xs ≡ del_master_stores b e (home_in e key) m.0)
@@ -161,16 +190,25 @@ module _ (t : Schema) (n : ℕ) (e : Entry) (r : ℕ) (key area b : List ℕ) wh
       ∙ ap (λ v. first_of v (storable x c)) (sym v))
       (λ d. rw (o, w, ms, f, hk, hb) (sym (ws d))) (λ _. rw o refl) (rw o refl) (rw o refl))
 
-  pub delm-ends : (p : Planned) (m : RecordNo) {home : ℕ} {s : Status} {q : ℕ} {after : List ℕ} → find b e key ≡ At m → home ≡ home_in e key
-      → p.status ≡ del_master_status t b n e home m.0 → (p.status ≡ Done → plan_stores b e area p.plan ≡ del_master_stores b e home m.0)
-      → Ends (settled (check_by e.edition) p.status b (plan_stores b e area p.plan) r r area) s q area after → AnswersIn t n DelM e r key area b s q area after
-  delm-ends p m g l us ws w =
+  delm-told : (m : RecordNo) (u : Status) (xs : List Store) {s : Status} {q : ℕ} {after : List ℕ} → find b e key ≡ At m → u ≡ del_master_status t b n e (home_in e key) m.0
+      → (u ≡ Done → xs ≡ del_master_stores b e (home_in e key) m.0)
+      → Ends (settled (check_by e.edition) u b xs r r area) s q area after → AnswersIn t n DelM e r key area b s q area after
+  delm-told m u xs g us ws w =
       record {
         told = λ c h at.
             found-ends t c n DelM e r key area b delm-call h at m _ g
-            (delm_settles (scene_under t c) c m p.status (plan_stores b e area p.plan) (rw l at us) (rw l at ws) (schema-here t c) at.number (operation-here t c ∙ h.operation)
+            (delm_settles (scene_under t c) c m u xs us ws (schema-here t c) at.number (operation-here t c ∙ h.operation)
             at.edition at.entry at.masters (found_among h t at.masters ∙ g) h.key h.base h.area h.reference) w;
       }
+
+  pub delm-refused : (why : Refusal) (m : RecordNo) {home : ℕ} → find b e key ≡ At m → home ≡ home_in e key → status_by why ≡ del_master_status t b n e home m.0
+      → AnswersIn t n DelM e r key area b (status_by why) r area b
+  delm-refused why m g l us = delm-told m (status_by why) [] g (rw l at us) (refusal_no_done why) (settled-err (check_by e.edition) (status_by why) b [] r r area why refl)
+
+  pub delm-ends : (p : Plan) (m : RecordNo) {home : ℕ} {s : Status} {q : ℕ} {after : List ℕ} → find b e key ≡ At m → home ≡ home_in e key
+      → Done ≡ del_master_status t b n e home m.0 → plan_stores b e area p ≡ del_master_stores b e home m.0
+      → Ends (settled (check_by e.edition) Done b (plan_stores b e area p) r r area) s q area after → AnswersIn t n DelM e r key area b s q area after
+  delm-ends p m g l us ws w = delm-told m Done (plan_stores b e area p) g (rw l at us) (λ _. rw l at ws) w
 
 -- ---- RQLOC
 

@@ -1,5 +1,5 @@
 -- Calls on masters, step by step down the ladder: the set, the forms of the parameters, the master.
-use Rattle.std.specs.Prelude.{ℕ, ◌≡◌, Bool, true, false, cond, not, ◌||◌, List, [], ltb}
+use Rattle.std.specs.Prelude.{ℕ, ◌≡◌, Bool, true, false, cond, not, ◌||◌, List, [], ltb, Result, Ok, Err}
 use Rattle.std.proofs.Math.Path.{refl}
 use Rattle.std.proofs.Common.{sym, ap, ◌∙◌, arith, ltb-true}
 use Rattle.octets.specs.Octets.{word_bytes}
@@ -9,7 +9,9 @@ use Rattle.terms.specs.declared.Status.TheVariants.{Done, Fntf, Kind, Mrnf, Dupm
 use Rattle.terms.specs.declared.Operation.{Operation}
 use Rattle.terms.specs.declared.Operation.TheVariants.{AddM, DelM, Readm, Writm, Rqloc}
 use Rattle.terms.specs.declared.RecordNo.{RecordNo}
-use Rattle.terms.specs.Laws.{refused-done}
+use Rattle.terms.specs.declared.Refusal.{Refusal}
+use Rattle.terms.specs.declared.Refusal.TheVariants as refusal
+use Rattle.terms.specs.Status.{status_by}
 use Rattle.terms.specs.Operation.{operation_of}
 use Rattle.schema.specs.declared.Entry.{Entry}
 use Rattle.schema.specs.declared.Schema.{Schema}
@@ -32,7 +34,7 @@ use Rattle.forms.specs.FormLaws.{form-tests, form-link, form-on}
 use Rattle.master_calls.specs.declared.Placed.{Placed}
 use Rattle.ends.specs.AsksLaws.{operation_letters, letters-ask, someone_asks, found_among, seek-refuses, seek-passes}
 use Rattle.ends.specs.FormFacts.{key-length, area-length}
-use Rattle.ends.specs.Asks.{Asks, placed_outcome}
+use Rattle.ends.specs.Asks.{Asks, placed_status, placed_outcome}
 use Rattle.records.specs.InBase.{Laid, IsMasterSet}
 use Rattle.records.specs.Fields.{Fields}
 use Rattle.ends.specs.Ends.{Ends}
@@ -81,20 +83,28 @@ module _ (t : Schema) (o : Operation) (n : List ℕ) (r : ℕ) (key area : List 
   form_so : is_master e ≡ true → (c : Call) → Asks c o n r key area c.base → refusal (scene_under t c) c form_rungs ≡ form_status o e 0 0 e.key r key area
   form_so m c h = rw (← h.name, ← h.reference, ← h.key, ← h.area) (form-masters t c o k h.operation (rw h.name m))
 
-  pub places-set : {p q : Placed} → SchemaOk t → q ≡ placed_at t (set_named t n) → p ≡ formed_in o q r key area → Places t o n r key area p
-  places-set ok g h = rw (h, g) (go (ltb i (set_count t)) (is_master e) refl refl)
+  abbrev placed : (f m : Bool) → Result Placed Refusal
+  placed f m = cond f (cond m (Ok (record { number = record { 0 = i }; entry = e })) (Err refusal.Kind)) (Err refusal.Fntf)
+
+  -- no set of masters has the name
+  pub unplaced : {why : Refusal} → placed_at t i ≡ Err why → (c : Call) → Asks c o n r key area c.base → status_by why ≡ placed_status t c
+  unplaced h c a = go (ltb i (set_count t)) (is_master e) refl refl h
     where
-      go : (f m : Bool) → ltb i (set_count t) ≡ f → is_master e ≡ m
-          → Places t o n r key area
-          (formed_in o
-          (cond f (record { status = cond m Done Kind; number = record { 0 = i }; entry = e }) (record { status = Fntf; number = record { 0 = 0 }; entry = entry_of t 0 }))
-          r key area)
-      go false m f q =
-          record { status = λ c h. rw (first_two c h, f) refl; on-set = refused-done {u = Fntf} refl (omega arith); known = refused-done {u = Fntf} refl (omega arith) }
-      go true false f q =
-          record { status = λ c h. rw (first_two c h, f, q) refl; on-set = refused-done {u = Kind} refl (omega arith); known = refused-done {u = Kind} refl (omega arith) }
-      go true true f q =
-          record {
+      go : (f m : Bool) → ltb i (set_count t) ≡ f → is_master e ≡ m → {why : Refusal} → placed f m ≡ Err why → status_by why ≡ placed_status t c
+      go false m f q {why} h = let w : why ≡ refusal.Fntf = cc in rw (w, first_two c a, f) refl
+      go true false f q {why} h = let w : why ≡ refusal.Kind = cc in rw (w, first_two c a, f, q) refl
+      go true true f q h = absurd cc
+
+  pub places-set : {p : Placed} {s : Status} → SchemaOk t → placed_at t i ≡ Ok p → s ≡ formed_in o p.entry r key area → Places t o n r key area p s
+  places-set ok h g = go (ltb i (set_count t)) (is_master e) refl refl h g
+    where
+      go : (f m : Bool) → ltb i (set_count t) ≡ f → is_master e ≡ m → {p : Placed} {s : Status} → placed f m ≡ Ok p → s ≡ formed_in o p.entry r key area → Places t o n r key area p s
+      go false m f q h g = absurd cc
+      go true false f q h g = absurd cc
+      go true true f q {p} {s} h g =
+          let same : p ≡ record { number = record { 0 = i }; entry = e } = cc in
+          rw (g, same)
+          (record {
             status = λ c h. rw (first_two c h, f, q) (sym (form_so q c h));
             on-set = λ d c h. record {
               number = number-here t c ∙ (rw h.name refl);
@@ -108,19 +118,20 @@ module _ (t : Schema) (o : Operation) (n : List ℕ) (r : ℕ) (key area : List 
               key = key-length o e 0 0 e.key r key area d k.of_a-key;
               area = area-length o e 0 0 e.key r key area d;
             };
-          }
+          })
 
 -- a set that is placed has its fields
-pub placed_fields : (t : Schema) (i : ℕ) {q : Placed} {n : ℕ} → Laid t n → q ≡ placed_at t i → q.status ≡ Done → Fields q.entry × (is_master q.entry ≡ true)
-placed_fields t i w h = rw h (go (ltb i (set_count t)) (is_master (entry_of t i)) refl refl)
+pub placed_fields : (t : Schema) (i : ℕ) {p : Placed} {n : ℕ} → Laid t n → placed_at t i ≡ Ok p → Fields p.entry × (is_master p.entry ≡ true)
+placed_fields t i w h = go (ltb i (set_count t)) (is_master (entry_of t i)) refl refl h
   where
-    go : (f m : Bool) → ltb i (set_count t) ≡ f → is_master (entry_of t i) ≡ m
-        → (let q : Placed =
-        cond f (record { status = cond m Done Kind; number = record { 0 = i }; entry = entry_of t i }) (record { status = Fntf; number = record { 0 = 0 }; entry = entry_of t 0 }) in
-        q.status ≡ Done → Fields q.entry × (is_master q.entry ≡ true))
-    go false m f q = refused-done {u = Fntf} refl (omega arith)
-    go true false f q = refused-done {u = Kind} refl (omega arith)
-    go true true f q = λ d. (w.fields i (ltb-true _ _ f), q)
+    go : (f m : Bool) → ltb i (set_count t) ≡ f → is_master (entry_of t i) ≡ m → {p : Placed}
+        → cond f (cond m (Ok (record { number = record { 0 = i }; entry = entry_of t i })) (Err refusal.Kind)) (Err refusal.Fntf) ≡ Ok p
+        → Fields p.entry × (is_master p.entry ≡ true)
+    go false m f q h = absurd cc
+    go true false f q h = absurd cc
+    go true true f q {p} h =
+        let k : p ≡ record { number = record { 0 = i }; entry = entry_of t i } = cc in
+        rw k (w.fields i (ltb-true _ _ f), q)
 
 -- a set that is known is the schema's
 pub known-set : {t : Schema} {o : Operation} {k a : List ℕ} {i : ℕ} {e : Entry} {n : ℕ} → Laid t n → SetKnown t o k a i e → IsMasterSet e n

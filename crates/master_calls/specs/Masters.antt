@@ -1,8 +1,9 @@
 -- Calls on masters: what they have found out when their set is known, and when their master is.
-use Rattle.std.specs.Prelude.{ℕ, ◌<◌, ◌≡◌, true, false, cond, List, [], ◌∷◌, ltb, length}
+use Rattle.std.specs.Prelude.{ℕ, ◌<◌, ◌≡◌, true, false, cond, List, [], ◌∷◌, ltb, length, Result, Ok, Err}
 use Rattle.terms.specs.declared.Status.{Status}
-use Rattle.terms.specs.declared.Status.TheVariants.{Done, Fntf, Kind}
-use Rattle.terms.specs.Status.{first_of}
+use Rattle.terms.specs.declared.Status.TheVariants.{Done}
+use Rattle.terms.specs.declared.Refusal.{Refusal}
+use Rattle.terms.specs.declared.Refusal.TheVariants.{Fntf, Kind}
 use Rattle.terms.specs.declared.Operation.{Operation}
 use Rattle.terms.specs.declared.Operation.TheVariants.{AddM}
 use Rattle.schema.specs.declared.Entry.{Entry}
@@ -51,27 +52,22 @@ pub record OnSet (t : Schema) (c : Call) (n : ℕ) (e : Entry) : Type 0 where
   pub masters : (scene_under t c).masters ≡ e
   pub edition : (scene_under t c).schema.edition ≡ e.edition
 
--- 4 and 5, on set number i: a number that no set has is refused, with the schema's first set in its place
-abbrev pub placed_at : Schema → ℕ → Placed
+-- 4 and 5, on set number i: a number that no set has is refused
+abbrev pub placed_at : Schema → ℕ → Result Placed Refusal
 placed_at t i =
     cond (ltb i (set_count t))
-    (record { status = cond (is_master (entry_of t i)) Done Kind; number = record { 0 = i }; entry = entry_of t i })
-    (record { status = Fntf; number = record { 0 = 0 }; entry = entry_of t 0 })
+    (cond (is_master (entry_of t i)) (Ok (record { number = record { 0 = i }; entry = entry_of t i })) (Err Kind))
+    (Err Fntf)
 
 -- and 7 to 11 by form there
-abbrev pub formed_in : Operation → Placed → ℕ → List ℕ → List ℕ → Placed
-formed_in o p r key area =
-    record {
-      status = first_of p.status (form_status o p.entry 0 0 p.entry.key r key area);
-      number = p.number;
-      entry = p.entry;
-    }
+abbrev pub formed_in : Operation → Entry → ℕ → List ℕ → List ℕ → Status
+formed_in o e r key area = form_status o e 0 0 e.key r key area
 
--- what every call that asks with these parameters has come to
-pub record Places (t : Schema) (o : Operation) (n : List ℕ) (r : ℕ) (k a : List ℕ) (p : Placed) : Type 0 where
-  pub status : (c : Call) → Asks c o n r k a c.base → p.status ≡ placed_status t c
-  pub on-set : p.status ≡ Done → (c : Call) → Asks c o n r k a c.base → OnSet t c p.number.0 p.entry
-  pub known : p.status ≡ Done → SetKnown t o k a p.number.0 p.entry
+-- what every call on a set that is placed, asking with these parameters, has come to; and what is known where that is done
+pub record Places (t : Schema) (o : Operation) (n : List ℕ) (r : ℕ) (k a : List ℕ) (p : Placed) (s : Status) : Type 0 where
+  pub status : (c : Call) → Asks c o n r k a c.base → s ≡ placed_status t c
+  pub on-set : s ≡ Done → (c : Call) → Asks c o n r k a c.base → OnSet t c p.number.0 p.entry
+  pub known : s ≡ Done → SetKnown t o k a p.number.0 p.entry
 
 -- every call on this set comes to this, whatever the schema
 pub record AnswersOn (o : Operation) (e : Entry) (r : ℕ) (k a b : List ℕ) (s : Status) (q : ℕ) (new after : List ℕ) : Type 0 where

@@ -1,33 +1,16 @@
-use mathlib.Core.Path.{sym, ◌∙◌}
-use borrow.Author.Rules.{rules}
-use Rattle.records.proofs.InBaseLaws.{master_in_lem}
-use Rattle.masters.specs.declared.Found.TheVariants.{At, Missing, Damaged}
+use Rattle.std.proofs.lemmas.Result.{err_from_is_err_and}
 use Rattle.masters.proofs.FindLaws.{find_at}
 use Rattle.master_calls.specs.MasterLaws.{readm-call}
-use Rattle.master_calls.specs.CallLaws.{told-found, by_damage, by_absence, readm-ends}
+use Rattle.master_calls.specs.CallLaws.{told-refused, told-at, by_search, readm-ends}
 use Rattle.master_calls.proofs.readm.Goals as goal
 
-pub of-requires : goal.of-requires
-of-requires c = search (rules, master_in_lem c.requires.master_set)
+pub returns-in_err-m : goal.returns-in_err-m
+returns-in_err-m c =
+    let p = err_from_is_err_and c.from_residual.result c.from_residual.ensures.1 in
+    rw (p.1, p.2) (by_search _ readm-call _ _ _ _ _ (told-refused _ _ _ _ c.master.ensures c.of.ensures.0 c.in_err-m.was))
 
-pub find-s-requires : goal.find-s-requires
-find-s-requires c = search (rules, master_in_lem c.requires.master_set)
+pub give-requires-clause-in_set : goal.give-requires-clause-in_set
+give-requires-clause-in_set c = (find_at _ _ _ _ (told-at _ _ _ _ c.master.ensures c.of.ensures.0 c.in_ok-m.was)).in_set
 
-pub give-requires : goal.give-requires
-give-requires c =
-    let i = master_in_lem c.requires.master_set in
-    record { lies_in = i.lies; fields = i.fields; r_le_records = (find_at _ _ _ _ (sym c.find-s.ensures.found_value ∙ c.in-At.is)).in_set.1; area_len = search rules }
-
-pub returns-in-Damaged : goal.returns-in-Damaged
-returns-in-Damaged c =
-    rw (c.ended.ensures.0, c.ended.ensures.1)
-    (by_damage _ readm-call _ _ _ _ _ (told-found _ _ _ _ Damaged c.find-s.ensures.found_value c.of.ensures.0 c.in-Damaged.is))
-
-pub returns-in-Missing : goal.returns-in-Missing
-returns-in-Missing c =
-    rw (c.ended-in-Missing.ensures.0, c.ended-in-Missing.ensures.1)
-    (by_absence _ readm-call _ _ _ _ _ (told-found _ _ _ _ Missing c.find-s.ensures.found_value c.of.ensures.0 c.in-Missing.is))
-
-pub returns-in-At : goal.returns-in-At
-returns-in-At c =
-    readm-ends _ _ _ _ _ _ (told-found _ _ _ _ (At _) c.find-s.ensures.found_value c.of.ensures.0 c.in-At.is) c.give.ensures
+pub returns : goal.returns
+returns c = readm-ends _ _ _ _ _ _ (told-at _ _ _ _ c.master.ensures c.of.ensures.0 c.in_ok-m.was) c.give.ensures
