@@ -1,5 +1,5 @@
 // C entries to the proved leaves, so that tests and examples in C and Rust can compare and show them. Each takes buffers of any length and
-// contents and refuses what is bad by its answer.
+// contents and refuses what is bad by its answer. kept: all ones for no place, and 0 and 1 for no and yes, since C's callers are promised them.
 #![tactic(auto)]
 
 ghost use Rattle.std.specs.Prelude.{◌≡◌, ◌<◌};

@@ -1,6 +1,7 @@
 // Every rule that document 01, "Blocks and the schema", makes for the schema's form: each function answers what one definition of
 // specs/Rules.antt says. `s` is the schema buffer, `i` an entry's number, `j` a slot's number within its entry, and `p` and `q` number
-// the slots of all entries in schema order. Tests of bytes are joined by `&` and `|`, with no early way out: a schema that is in use breaks none.
+// the slots of all entries in schema order. Tests of single bytes are joined by `&` and `|`,
+// with no early way out: a schema that is in use breaks none.
 #![tactic(auto)]
 
 ghost use Rattle.std.specs.Prelude.{◌≡◌, cond, ◌+◌, ◌*◌, ◌≤◌, ◌<◌, ltb, length};
@@ -22,7 +23,8 @@ fn capital_or_digit(x: u8) -> bool
     x.is_ascii_uppercase() | x.is_ascii_digit()
 }
 
-// Are the n bytes from `at` on zero? kept: a loop with no way out, of which the compiler tests many bytes at once, and not `all`.
+// Are the n bytes from `at` on zero? kept: of a loop with no way out the compiler tests many bytes at once; with `octets::all`, which has
+// one, a whole schema takes a tenth longer.
 fn zeros(s: &[u8], at: usize, n: usize) -> bool
     requires { at + n ≤ length s.now }
     ensures { result ≡ all_zero (run s.now at n) }
