@@ -1,26 +1,23 @@
 -- The ride along a chain, as the code makes it: a turn, the ways out and the end; and the sums that the chains of a path make.
 use Prim.Native.Nat.{ℕ, zero, suc, ◌+◌, ◌≤◌, ◌<◌}
-use Rattle.std.specs.Prelude.{◌≡◌, Bool, cond, not, ◌&&◌, List, eqb}
+use Rattle.std.specs.Prelude.{◌≡◌, Bool, cond, List, eqb, Some, None}
 use Rattle.std.proofs.Math.Path.{refl}
-use Rattle.std.proofs.Common.{sym, ◌∙◌}
-use Rattle.std.proofs.Math.Bool.{true, false, and-eq-true_iff}
+use Rattle.std.proofs.Common.{sym, ap, ◌∙◌}
+use Rattle.std.proofs.Math.Bool.{true, false}
 use native.Mathlib.Omega.{arith}
 use Rattle.std.proofs.Math.Numerals.{add-one}
-use borrow.Author.Tests.{eq-eqb, ne_eqb, le-leb, lt-leb, not-true, not-false}
+use borrow.Author.Tests.{eq-eqb, ne_eqb, le-leb, lt-leb}
 use Rattle.octets.specs.Octets.{run, same_bytes}
 use Rattle.octets.specs.RunLaws.{same_bytes_comm}
 use Rattle.octets.specs.Below.{all_below, sum_below, count_below}
-use Rattle.octets.specs.BelowLaws.{sum_below-turn, count_below_hit, count_below_miss}
+use Rattle.octets.specs.BelowLaws.{all_below-fails, sum_below-turn, count_below_hit, count_below_miss}
 use Rattle.schema.specs.declared.Path.{Path}
 use Rattle.schema.specs.declared.Entry.{Entry}
-use Rattle.schema.specs.Place.{InSet, in_set, place_of}
+use Rattle.schema.specs.Place.{place_of}
 use Rattle.records.specs.Records.{is_live, master_key, first_on, last_on, key_on, prior_on, next_on}
-use Rattle.masters.proofs.FindLaws.{in_set_true}
-use Rattle.points.specs.Chains.{is_point_of}
 use Rattle.sound.specs.Linear.{Ride, ride, path_ride, ride_ends, points_on, live_count, path_in_place}
-use Rattle.clean.specs.CleanLaws.{fails, ends}
 use Rattle.signon.specs.declared.on_points.Ridden.{Ridden}
-use Rattle.signon.specs.Judged.{ride_of, in_order, ride_from, chain_ends, chain_count}
+use Rattle.signon.specs.Judged.{ridden_of, in_order, ride_from, chain_ends, chain_count, chain_points, path_points}
 
 -- ---- one record
 
@@ -29,18 +26,18 @@ module _ (b : List ℕ) (e : Entry) (p : Path) (key : List ℕ) (q r : ℕ) (som
   order_above h = rw (le-leb 1 r some, lt-leb r e.records h) refl
 
   module _ (most : r ≤ e.records) {l : Bool} (el : l ≡ is_live b e r) where
-    pub order_free : not l ≡ true → false ≡ in_order b e p key q r
-    order_free h = rw (le-leb 1 r some, le-leb r e.records most, ← el, not-true l h) refl
+    pub order_free : l ≡ false → false ≡ in_order b e p key q r
+    order_free h = rw (le-leb 1 r some, le-leb r e.records most, ← el, h) refl
 
-    module _ (live : not l ≡ false) {n : ℕ} (len : n ≡ p.len) {s : Bool} (es : s ≡ same_bytes key (run b (place_of e r + p.at) n)) where
+    module _ (live : l ≡ true) {n : ℕ} (len : n ≡ p.len) {s : Bool} (es : s ≡ same_bytes key (run b (place_of e r + p.at) n)) where
       same : s ≡ same_bytes (key_on b e r p) key
       same = es ∙ (rw len (same_bytes_comm key (key_on b e r p)))
 
-      pub order_other : not s ≡ true → false ≡ in_order b e p key q r
-      order_other h = rw (le-leb 1 r some, le-leb r e.records most, ← el, not-false l live, ← same, not-true s h) refl
+      pub order_other : s ≡ false → s ≡ in_order b e p key q r
+      order_other h = rw (le-leb 1 r some, le-leb r e.records most, ← el, live, ← same, h) refl
 
-      pub order_last : not s ≡ false → {w : ℕ} → w ≡ prior_on b e r p → eqb w q ≡ in_order b e p key q r
-      order_last h d = rw (le-leb 1 r some, le-leb r e.records most, ← el, not-false l live, ← same, not-false s h, d) refl
+      pub order_last : s ≡ true → {w : ℕ} → w ≡ prior_on b e r p → eqb w q ≡ in_order b e p key q r
+      order_last h d = rw (le-leb 1 r some, le-leb r e.records most, ← el, live, ← same, h, d) refl
 
 -- ---- the ride
 
@@ -51,23 +48,17 @@ module _ (b : List ℕ) (e : Entry) (p : Path) (key : List ℕ) where
   ride-done (suc fuel) n q r h = rw (eq-eqb r 0 h) refl
 
   module _ (fuel left n q r : ℕ) (more : fuel ≡ left + 1) (some : r ≡ 0 → ⊥) {o : Bool} (eo : o ≡ in_order b e p key q r) where
-    pub ride-breaks : not o ≡ true → ride_from fuel b e p key n q r ≡ record { ok = false; count = n; last = q }
+    pub ride-breaks : o ≡ false → ride_from fuel b e p key n q r ≡ record { ok = false; count = n; last = q }
     unfolding ride_from ride
-    ride-breaks h = rw (more, add-one left, ne_eqb r 0 some, ← eo, not-true o h) refl
+    ride-breaks h = rw (more, add-one left, ne_eqb r 0 some, ← eo, h) refl
 
-    pub ride-turn : not o ≡ false → {w : ℕ} → w ≡ next_on b e r p → ride_from fuel b e p key n q r ≡ ride_from left b e p key (n + 1) r w
+    pub ride-turn : o ≡ true → {w : ℕ} → w ≡ next_on b e r p → ride_from fuel b e p key n q r ≡ ride_from left b e p key (n + 1) r w
     unfolding ride_from ride
-    ride-turn h d = rw (more, add-one left, ne_eqb r 0 some, ← eo, not-false o h, d) refl
+    ride-turn h d = rw (more, add-one left, ne_eqb r 0 some, ← eo, h, d) refl
 
-    -- a record in order is one of the set
-    pub order_in : not o ≡ false → InSet e r
-    order_in h =
-        let t = ((and-eq-true_iff (in_set e r && is_point_of b e p key r) (eqb (prior_on b e r p) q)).0 (sym eo ∙ not-false o h)).0 in
-        in_set_true e r ((and-eq-true_iff (in_set e r) (is_point_of b e p key r)).0 t).0
-
-  pub ride_out : (fuel n q r : ℕ) → fuel ≡ 0 → ride_from fuel b e p key n q r ≡ record { ok = eqb r 0; count = n; last = q }
+  pub ride-circle : (fuel n q r : ℕ) → fuel ≡ 0 → (r ≡ 0 → ⊥) → ride_from fuel b e p key n q r ≡ record { ok = false; count = n; last = q }
   unfolding ride_from ride
-  ride_out fuel n q r h = rw h refl
+  ride-circle fuel n q r h some = rw (h, ne_eqb r 0 some) refl
 
   -- it meets no more records than it may
   pub ride-count : (fuel n q r : ℕ) → (ride_from fuel b e p key n q r).count ≤ n + fuel
@@ -114,14 +105,26 @@ module _ (b : List ℕ) (e : Entry) (p : Path) (x : Entry) (m : ℕ) where
       by true = path_ride-count
       by false = omega arith
 
-  module _ {l : Bool} (el : l ≡ is_live b x m) where
-    pub chain-none : not l ≡ true → (true ≡ chain_ends b e p x m) × (0 ≡ chain_count b e p x m)
-    chain-none h = rw (← el, not-true l h) (refl, refl)
+-- an answer that is there only where a test holds
+pub some_if : {A : Type 0} (t : Bool) {x y : A} → cond t (Some x) None ≡ Some y → (t ≡ true) × (x ≡ y)
+some_if true h = (refl, cc)
+some_if false h = cc
 
-    pub chain-some : not l ≡ false → {r : Ridden} → ride_of r ≡ path_ride b e p x m → {z : ℕ} → z ≡ last_on b x m p
-        → ((r.ok && eqb r.last z) ≡ chain_ends b e p x m) × (r.count ≡ chain_count b e p x m)
-    unfolding ride_ends
-    chain-some h er ez = rw (← el, not-false l h, ← er, ez) (refl, refl)
+pub none_if : {A : Type 0} (t : Bool) (x : A) → cond t (Some x) None ≡ None → t ≡ false
+none_if true x h = cc
+none_if false x h = refl
+
+module _ (b : List ℕ) (e : Entry) (p : Path) (x : Entry) (m : ℕ) {l : Bool} (el : l ≡ is_live b x m) (live : l ≡ true) where
+  pub chain_broken : ridden_of (path_ride b e p x m) ≡ None → None ≡ chain_points b e p x m
+  unfolding ride_ends
+  chain_broken h = rw (sym el ∙ live, none_if (path_ride b e p x m).ok _ h) refl
+
+  pub chain-some : {r : Ridden} → ridden_of (path_ride b e p x m) ≡ Some r → {z : ℕ} → z ≡ last_on b x m p
+      → cond (eqb r.last z) (Some r.count) None ≡ chain_points b e p x m
+  unfolding ride_ends
+  chain-some h ez =
+      let t = some_if (path_ride b e p x m).ok h in
+      rw (sym el ∙ live, t.0, ← ap (λ (q : Ridden). q.last) t.1, ← ap (λ (q : Ridden). q.count) t.1, ez) refl
 
 -- ---- the chains of a path
 
@@ -137,13 +140,21 @@ module _ (b : List ℕ) (e : Entry) (p : Path) (x : Entry) where
   unfolding points_on
   points-turn k em ec = rw (em, ec) (sym (sum_below-turn (λ j. chain_count b e p x (j + 1)) k))
 
-  pub path_breaks : (k : ℕ) {c : Bool} → k < x.records → c ≡ ends_at k → not c ≡ true → false ≡ path_in_place b e p x
-  unfolding path_in_place
-  path_breaks k l ec h = rw (← fails ends_at x.records k l ec h) refl
+  pub path_breaks : (k : ℕ) → k < x.records → chain_points b e p x (k + 1) ≡ None → None ≡ path_points b e p x
+  path_breaks k l h = rw (all_below-fails ends_at x.records k l (none_if (ends_at k) _ h)) refl
 
-  pub path_ends : (k : ℕ) {met live : ℕ} → k ≤ x.records → x.records ≤ k → all_below ends_at k ≡ true → met ≡ points_on b e p x k → live ≡ live_count b e
-      → eqb met live ≡ path_in_place b e p x
-  unfolding path_in_place
-  path_ends k a z h em el =
+  pub path_ends : (k : ℕ) {met : ℕ} → k ≤ x.records → x.records ≤ k → all_below ends_at k ≡ true → met ≡ points_on b e p x k
+      → Some met ≡ path_points b e p x
+  path_ends k a z h em =
       let q : k ≡ x.records = omega arith in
-      rw (em, el, q, ← ends ends_at x.records k a z h) refl
+      rw (em, q, rw q at h) refl
+
+  pub path_none : path_points b e p x ≡ None → false ≡ path_in_place b e p x
+  unfolding path_in_place
+  path_none h = rw (none_if (all_below ends_at x.records) _ h) refl
+
+  pub path_sum : {met live : ℕ} → path_points b e p x ≡ Some met → live ≡ live_count b e → eqb met live ≡ path_in_place b e p x
+  unfolding path_in_place
+  path_sum h el =
+      let t = some_if (all_below ends_at x.records) h in
+      rw (t.0, el, ← t.1) refl

@@ -1,7 +1,7 @@
 -- Sign-on as a whole: what is asked of each path and of each set, and how a set is judged by its kind.
-use Rattle.std.specs.Prelude.{ℕ, ◌≡◌, Bool, true, false, not, List}
+use Rattle.std.specs.Prelude.{ℕ, ◌≡◌, Bool, true, false, List}
 use Rattle.std.proofs.Math.Path.{refl}
-use borrow.Author.Tests.{eq-eqb, ne_eqb, not-true, not-false}
+use Rattle.std.proofs.Common.{eq-eqb, ne_eqb}
 use Rattle.schema.specs.declared.Path.{Path}
 use Rattle.schema.specs.declared.Entry.{Entry}
 use Rattle.schema.specs.declared.Schema.{Schema}
@@ -19,15 +19,15 @@ pub set_read : (t : Schema) (b : List ℕ) (i : ℕ) {e : Entry} {o : Bool} → 
 set_read t b i ee eo = rw (← ee) eo
 
 module _ (t : Schema) (b : List ℕ) (e : Entry) {c : Bool} (ec : c ≡ set_clean b e) where
-  pub set_dirty : not c ≡ true → false ≡ set_in_place t b e
+  pub set_dirty : c ≡ false → false ≡ set_in_place t b e
   unfolding set_in_place
-  set_dirty h = rw (← ec, not-true c h) refl
+  set_dirty h = rw (← ec, h) refl
 
-  module _ (h : not c ≡ false) {o : Bool} where
+  module _ (h : c ≡ true) {o : Bool} where
     pub set_masters : e.kind ≡ 1 → o ≡ masters_in_place b e → o ≡ set_in_place t b e
     unfolding set_in_place
-    set_masters k q = rw (← ec, not-false c h, eq-eqb e.kind 1 k) q
+    set_masters k q = rw (← ec, h, eq-eqb e.kind 1 k) q
 
     pub set_paths : (e.kind ≡ 1 → ⊥) → o ≡ paths_in_place t b e → o ≡ set_in_place t b e
     unfolding set_in_place
-    set_paths k q = rw (← ec, not-false c h, ne_eqb e.kind 1 k) q
+    set_paths k q = rw (← ec, h, ne_eqb e.kind 1 k) q

@@ -10,7 +10,7 @@ ghost use Rattle.records.specs.InBase.{Laid, IsSetOf, VariableIn};
 ghost use Rattle.signon.specs.Judged.{set_placed};
 
 use clean::{checks_true, set_clean};
-use schema::layout::{entry_of, path_of};
+use schema::layout::{entry_of, path_of, sets};
 use schema::{Entry, Schema};
 use terms::EntryNo;
 
@@ -22,15 +22,11 @@ fn paths_in_place(base: &[u8], t: Schema, e: Entry) -> bool
     requires { VariableIn t e (length base.now) }
     ensures { result ≡ paths_in_place t base.now e }
 {
-    let n = e.count as usize;
-    let mut j: usize = 0;
-    while j < n {
+    for j in 0..usize::from(e.count) {
         let p = path_of(e, j);
-        let x = entry_of(t, p.master);
-        if !on_points::path_in_place(base, e, p, x) {
+        if !on_points::path_in_place(base, e, p, entry_of(t, p.master)) {
             return false;
         }
-        j += 1;
     }
     true
 }
@@ -43,23 +39,20 @@ fn set_in_place(base: &[u8], t: Schema, e: Entry) -> bool
         return false;
     }
     if e.kind == 1 {
-        return on_masters::masters_in_place(base, e);
+        on_masters::masters_in_place(base, e)
+    } else {
+        paths_in_place(base, t, e)
     }
-    paths_in_place(base, t, e)
 }
 
 fn sets_in_place(base: &[u8], t: Schema) -> bool
     requires { Laid t (length base.now) }
     ensures { result ≡ all_below (set_placed t base.now) (set_count t) }
 {
-    let n = t.masters + t.variables;
-    let mut i: u8 = 0;
-    while i < n {
-        let e = entry_of(t, EntryNo(i));
-        if !set_in_place(base, t, e) {
+    for i in 0..sets(t) {
+        if !set_in_place(base, t, entry_of(t, EntryNo(i))) {
             return false;
         }
-        i += 1;
     }
     true
 }
@@ -69,8 +62,5 @@ pub fn sign_on(base: &[u8], t: Schema) -> bool
     requires { Laid t (length base.now) }
     ensures { result ≡ in_place t base.now }
 {
-    if !checks_true(base, t) {
-        return false;
-    }
-    sets_in_place(base, t)
+    checks_true(base, t) && sets_in_place(base, t)
 }

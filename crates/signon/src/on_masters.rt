@@ -15,11 +15,7 @@ use terms::RecordNo;
 fn found_at(f: Found, r: RecordNo) -> bool
     ensures { result ≡ found_at f r.0 }
 {
-    match f {
-        Found::At(q) => q.0 == r.0,
-        Found::Missing => false,
-        Found::Damaged => false,
-    }
+    f == Found::At(r)
 }
 
 // Is the pointer a live master of the home h?
@@ -29,14 +25,8 @@ fn of_home(base: &[u8], e: Entry, h: RecordNo, q: u32) -> bool
     requires le_q { 1 ≤ q }
     ensures { result ≡ is_of_home base.now e h.0 q }
 {
-    if e.records < q {
-        return false;
-    }
     let r = RecordNo(q);
-    if !is_live(base, e, r) {
-        return false;
-    }
-    own_home(base, e, r).0 == h.0
+    q <= e.records && is_live(base, e, r) && own_home(base, e, r) == h
 }
 
 // ROOT next is 0, or a master of the same home that points back.
@@ -47,14 +37,7 @@ fn next_answers(base: &[u8], e: Entry, r: RecordNo) -> bool
     ensures { result ≡ next_answers base.now e r.0 }
 {
     let q = root_next(base, e, r);
-    if q == 0 {
-        return true;
-    }
-    let h = own_home(base, e, r);
-    if !of_home(base, e, h, q) {
-        return false;
-    }
-    root_prior(base, e, RecordNo(q)) == r.0
+    q == 0 || of_home(base, e, own_home(base, e, r), q) && root_prior(base, e, RecordNo(q)) == r.0
 }
 
 // At its home a master has no ROOT prior. Elsewhere the master in front of it answers for it.
@@ -64,11 +47,7 @@ fn prior_ends(base: &[u8], e: Entry, r: RecordNo) -> bool
     requires in_set { InSet e r.0 }
     ensures { result ≡ prior_ends base.now e r.0 }
 {
-    let h = own_home(base, e, r);
-    if r.0 != h.0 {
-        return true;
-    }
-    root_prior(base, e, r) == 0
+    r != own_home(base, e, r) || root_prior(base, e, r) == 0
 }
 
 fn master_in_place(base: &[u8], e: Entry, r: RecordNo) -> bool
@@ -77,19 +56,11 @@ fn master_in_place(base: &[u8], e: Entry, r: RecordNo) -> bool
     requires in_set { InSet e r.0 }
     ensures { result ≡ master_in_place base.now e r.0 }
 {
-    let k = key_in(base, e, r, 12, e.key as usize);
-    if k.is_blank() {
+    let k = key_in(base, e, r, 12, usize::from(e.key));
+    if k.is_blank() || !found_at(find(base, e, k).found, r) {
         return false;
     }
-    let s = find(base, e, k);
-    let f = s.found;
-    if !found_at(f, r) {
-        return false;
-    }
-    if !next_answers(base, e, r) {
-        return false;
-    }
-    prior_ends(base, e, r)
+    next_answers(base, e, r) && prior_ends(base, e, r)
 }
 
 // A record that is not live is no master, and needs no place.
@@ -99,10 +70,7 @@ fn record_in_place(base: &[u8], e: Entry, r: RecordNo) -> bool
     requires in_set { InSet e r.0 }
     ensures { result ≡ in_place_at base.now e r.0 }
 {
-    if !is_live(base, e, r) {
-        return true;
-    }
-    master_in_place(base, e, r)
+    !is_live(base, e, r) || master_in_place(base, e, r)
 }
 
 // "no blank key; live master keys distinct; each home's masters one two-way chain from the home, 0 at both ends"
@@ -111,13 +79,10 @@ pub fn masters_in_place(base: &[u8], e: Entry) -> bool
     requires master_ok { MasterOk e }
     ensures { result ≡ masters_in_place base.now e }
 {
-    let n = e.records;
-    let mut k: u32 = 0;
-    while k < n {
+    for k in 0..e.records {
         if !record_in_place(base, e, RecordNo(k + 1)) {
             return false;
         }
-        k += 1;
     }
     true
 }

@@ -1,26 +1,22 @@
-use native.Mathlib.Omega.{arith}
+use Rattle.std.proofs.Common.{refl, arith}
 use Rattle.octets.specs.Below.{count_below}
 use Rattle.signon.specs.PointLaws.{live_hit, live_miss, live_end}
-use borrow.Author.Rules.{rules}
 use Rattle.signon.proofs.on_points.live_count.Goals as goal
 use Rattle.signon.proofs.on_points.live_count.Goals.{then-is_live, else-is_live}
 
 pub loop-k-init : goal.loop-k-init
 unfolding count_below
-loop-k-init c = search rules
-
-pub overflow_add-count : goal.overflow_add-count
-overflow_add-count c = omega (arith, c.loop-k.invariant.2)
+loop-k-init c = (refl, omega arith)
 
 pub loop-k-preserved : goal.loop-k-preserved
 loop-k-preserved c =
     let a = c.args in
     elim c.if-is_live.branch [
-      | then-is_live w ↦ (omega arith, live_hit a.base.now a.e c.loop-k.k c.is_live.ensures c.loop-k.invariant.1 w.if-is_live.true w.count-is, omega arith)
-      | else-is_live w ↦ (omega arith, live_miss a.base.now a.e c.loop-k.k c.is_live.ensures c.loop-k.invariant.1 w.if-is_live.false w.count-is, omega arith)
+      | then-is_live w ↦ (live_hit a.base.now a.e c.loop-k.k c.is_live.ensures c.loop-k.invariant.0 w.if-is_live.true w.count-is, omega arith)
+      | else-is_live w ↦ (live_miss a.base.now a.e c.loop-k.k c.is_live.ensures c.loop-k.invariant.0 w.if-is_live.false w.count-is, omega arith)
     ]
 
 pub returns : goal.returns
 returns c =
     let a = c.args in
-    live_end a.base.now a.e c.loop-k.k c.loop-k.invariant.0 c.loop-k-test.false c.loop-k.invariant.1
+    live_end a.base.now a.e c.loop-k.k (omega arith) (omega arith) c.loop-k.invariant.0
