@@ -75,6 +75,7 @@ pub fn put_body(base: &mut [u8], e: Entry, r: RecordNo, area: &[u8])
 
 // A master's key and D bytes, read into the area.
 fn read_master(record: &Record, area: &mut [u8])
+    requires fields { Fields record.now.entry.now }
     requires area_len { length area.old ≡ area_length record.now.entry.now }
     requires kind_value { record.now.entry.now.kind ≡ 1 }
     ensures { area.new ≡ area_of record.now.base.now record.now.entry.now record.now.number.0 }
@@ -88,6 +89,7 @@ fn read_master(record: &Record, area: &mut [u8])
 
 // A variable record's keys in path order and its D bytes, read into the area.
 fn read_variable(record: &Record, area: &mut [u8])
+    requires fields { Fields record.now.entry.now }
     requires area_len { length area.old ≡ area_length record.now.entry.now }
     requires e_value { is_master record.now.entry.now ≡ false }
     ensures { area.new ≡ area_of record.now.base.now record.now.entry.now record.now.number.0 }
@@ -105,7 +107,8 @@ fn read_variable(record: &Record, area: &mut [u8])
 
 // A record read into an area of its set.
 pub fn read_area(record: &Record, area: &mut [u8])
-    requires { length area.old ≡ area_length record.now.entry.now }
+    requires fields { Fields record.now.entry.now }
+    requires area_len { length area.old ≡ area_length record.now.entry.now }
     ensures { area.new ≡ area_of record.now.base.now record.now.entry.now record.now.number.0 }
 {
     if record.entry.kind == 1 {

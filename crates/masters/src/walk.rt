@@ -8,7 +8,7 @@ ghost use Rattle.masters.specs.Find.{own_home, held_by_own, seek, find, master_o
 ghost use Rattle.masters.specs.Walks.{last_from, last_sought};
 
 use super::Found;
-use records::fields::{is_live, key_in, key_is, root_next};
+use super::held::Masters;
 use schema::Entry;
 use terms::{Key, RecordNo, Refusal};
 
@@ -19,6 +19,75 @@ pub struct Sought {
     pub last: RecordNo,
 }
 
+impl<'a> Masters<'a> {
+    // The walk from a home that is held by one of its own. Of a key that is missing `last` is the end of the chain.
+    fn seek_from(&self, k: Key, h: RecordNo) -> Sought
+        requires in_set { InSet self.now.entry.now h.0 }
+        requires len_value { k.len ≡ self.now.entry.now.key }
+        ensures found_value { result.found ≡ seek self.now.entry.now.records self.now.base.now self.now.entry.now (key_of k) h.0 }
+        ensures last_value { result.last.0 ≡ last_from result.found self.now.base.now self.now.entry.now h.0 }
+    {
+        let records = self.entry.records;
+        let mut at = h.0;
+        for _ in 0..records {
+            if at == 0 || records < at {
+                break;
+            }
+            let r = RecordNo(at);
+            let record = self.at(r).record();
+            if !record.is_live() {
+                break;
+            }
+            if record.key_is(12, k) {
+                return Sought {
+                    found: Found::At(r),
+                    last: h,
+                };
+            }
+            let next = record.root_next();
+            if next == 0 {
+                return Sought {
+                    found: Found::Missing,
+                    last: r,
+                };
+            }
+            at = next;
+        }
+        Sought {
+            found: Found::Damaged,
+            last: h,
+        }
+    }
+
+    // The search for a key.
+    pub fn find(&self, k: Key) -> Sought
+        requires { k.len ≡ self.now.entry.now.key }
+        ensures found_value { result.found ≡ find self.now.base.now self.now.entry.now (key_of k) }
+        ensures last_value { result.last.0 ≡ last_sought self.now.base.now self.now.entry.now (key_of k) }
+    {
+        let h = k.home(self.entry.records);
+        if !self.at(h).is_at_home() {
+            return Sought {
+                found: Found::Missing,
+                last: h,
+            };
+        }
+        self.seek_from(k, h)
+    }
+
+    // "find the named master (16, then 12)"
+    pub fn named(&self, k: Key) -> Result<RecordNo, Refusal>
+        requires { k.len ≡ self.now.entry.now.key }
+        ensures { result ≡ master_of (find self.now.base.now self.now.entry.now (key_of k)) }
+    {
+        match self.find(k).found {
+            Found::At(r) => Ok(r),
+            Found::Damaged => Err(Refusal::Damg),
+            Found::Missing => Err(Refusal::Mrnf),
+        }
+    }
+}
+
 // The home of the key that the record holds.
 pub fn own_home(base: &[u8], e: Entry, r: RecordNo) -> RecordNo
     requires lies_in { LiesIn e (length base.now) }
@@ -26,7 +95,7 @@ pub fn own_home(base: &[u8], e: Entry, r: RecordNo) -> RecordNo
     requires in_set { InSet e r.0 }
     ensures { result.0 ≡ own_home base.now e r.0 }
 {
-    key_in(base, e, r, 12, usize::from(e.key)).home(e.records)
+    Masters::of(base, &e).at(r).own_home()
 }
 
 // Is the record live, and at its own home?
@@ -36,46 +105,7 @@ pub fn held_by_own(base: &[u8], e: Entry, h: RecordNo) -> bool
     requires in_set { InSet e h.0 }
     ensures { result ≡ held_by_own base.now e h.0 }
 {
-    is_live(base, e, h) && own_home(base, e, h) == h
-}
-
-// The walk from a home that is held by one of its own. Of a key that is missing `last` is the end of the chain.
-fn seek_from(base: &[u8], e: Entry, k: Key, h: RecordNo) -> Sought
-    requires lies_in { LiesIn e (length base.now) }
-    requires master_ok { MasterOk e }
-    requires in_set { InSet e h.0 }
-    requires len_value { k.len ≡ e.key }
-    ensures found_value { result.found ≡ seek e.records base.now e (key_of k) h.0 }
-    ensures last_value { result.last.0 ≡ last_from result.found base.now e h.0 }
-{
-    let mut at = h.0;
-    for _ in 0..e.records {
-        if at == 0 || e.records < at {
-            break;
-        }
-        let r = RecordNo(at);
-        if !is_live(base, e, r) {
-            break;
-        }
-        if key_is(base, e, r, 12, k) {
-            return Sought {
-                found: Found::At(r),
-                last: h,
-            };
-        }
-        let next = root_next(base, e, r);
-        if next == 0 {
-            return Sought {
-                found: Found::Missing,
-                last: r,
-            };
-        }
-        at = next;
-    }
-    Sought {
-        found: Found::Damaged,
-        last: h,
-    }
+    Masters::of(base, &e).at(h).is_at_home()
 }
 
 // The search for a key.
@@ -87,14 +117,7 @@ pub fn find(base: &[u8], e: Entry, k: Key) -> Sought
     ensures found_value { result.found ≡ find base.now e (key_of k) }
     ensures last_value { result.last.0 ≡ last_sought base.now e (key_of k) }
 {
-    let h = k.home(e.records);
-    if !held_by_own(base, e, h) {
-        return Sought {
-            found: Found::Missing,
-            last: h,
-        };
-    }
-    seek_from(base, e, k, h)
+    Masters::of(base, &e).find(k)
 }
 
 // "find the named master (16, then 12)"
@@ -105,9 +128,5 @@ pub fn master(base: &[u8], e: Entry, k: Key) -> Result<RecordNo, Refusal>
     requires len_value { k.len ≡ e.key }
     ensures { result ≡ master_of (find base.now e (key_of k)) }
 {
-    match find(base, e, k).found {
-        Found::At(r) => Ok(r),
-        Found::Damaged => Err(Refusal::Damg),
-        Found::Missing => Err(Refusal::Mrnf),
-    }
+    Masters::of(base, &e).named(k)
 }

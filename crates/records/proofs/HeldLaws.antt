@@ -1,11 +1,9 @@
--- What a set needs to be held by a data base, from what its users know of it.
-use Rattle.std.specs.Prelude.{ℕ, ◌≤◌, ◌≡◌, refl, Bool, true, false}
+-- What stands in front of a record's D bytes.
+use Rattle.std.specs.Prelude.{◌≤◌, ◌≡◌, refl, Bool, true, false}
 use Rattle.std.proofs.Common.{arith}
 use Rattle.schema.specs.declared.Entry.{Entry}
-use Rattle.schema.specs.Place.{LiesIn}
 use Rattle.records.specs.Areas.{is_master}
 use Rattle.records.specs.Fields.{Fields}
-use Rattle.records.specs.InBase.{SetIn}
 use Rattle.records.proofs.AreaLaws.{head_inside}
 
 module _ {e : Entry} where
@@ -16,6 +14,3 @@ module _ {e : Entry} where
       go : (b : Bool) → is_master e ≡ b → 4 ≤ e.body
       go true h = omega (arith, f.key h)
       go false h = head_inside e f h
-
-  pub set_in-fields : {n : ℕ} → LiesIn e n → Fields e → SetIn e n
-  set_in-fields h f = record { lies = h; fields = f; head = omega (arith, h.sized, front-inside f) }

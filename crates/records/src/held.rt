@@ -1,11 +1,9 @@
-// A set as a data base holds it, and a record of one. That the set's records lie in the data base, and that the record is one of its set, are
-// facts of the types: who has a set or a record proves nothing of them.
+// A set as a data base holds it, and a record of one. That the set's records lie in the data base, that a state and three zeros stand in front of
+// each, and that the record is one of its set, are facts of the types: who has a set or a record proves nothing of them.
 ghost use Rattle.std.specs.Prelude.{◌≡◌, ◌+◌, ◌≤◌, length};
 ghost use Rattle.octets.specs.Octets.{run, word_at, same_bytes};
 ghost use Rattle.terms.specs.Terms.{key_of, key_from};
 ghost use Rattle.schema.specs.Place.{InSet, LiesIn, place_of, record_of};
-ghost use Rattle.records.specs.Fields.{Fields};
-ghost use Rattle.records.specs.InBase.{SetIn};
 ghost use Rattle.records.specs.Records.{state_of, is_live, root_next, root_prior, first_on, last_on, prior_on, next_on};
 
 use schema::{Entry, Path, layout};
@@ -15,7 +13,8 @@ use terms::{Key, RecordNo};
 pub struct Set<'a> {
     pub base: &'a [u8],
     pub entry: &'a Entry,
-    ghost held: { SetIn entry.now (length base.now) },
+    ghost lies_in: { LiesIn entry.now (length base.now) },
+    ghost front: { 4 ≤ entry.now.size },
 }
 
 #[derive(Clone, Copy)]
@@ -23,7 +22,8 @@ pub struct Record<'a> {
     pub base: &'a [u8],
     pub entry: &'a Entry,
     pub number: RecordNo,
-    ghost held: { SetIn entry.now (length base.now) },
+    ghost lies_in: { LiesIn entry.now (length base.now) },
+    ghost front: { 4 ≤ entry.now.size },
     ghost in_set: { InSet entry.now number.0 },
 }
 
@@ -31,7 +31,7 @@ impl<'a> Set<'a> {
     // The set of an entry, whose records lie in the data base.
     pub fn of(base: &'a [u8], entry: &'a Entry) -> Set<'a>
         requires lies_in { LiesIn entry.now (length base.now) }
-        requires fields { Fields entry.now }
+        requires front { 4 ≤ entry.now.size }
         ensures { (result.base.now ≡ base.now) × (result.entry.now ≡ entry.now) }
     {
         Set { base, entry }

@@ -21,8 +21,8 @@ copy_part-requires-clause-n_in_bounds_2 c =
     omega (
       arith,
       c.bytes-part.ensures.len,
-      c.args.record.now.held.lies.sized,
-      path_inside a.record.now.entry.now c.args.record.now.held.fields c.requires.e_value c.loop-j.j (omega arith),
+      c.args.record.now.lies_in.sized,
+      path_inside a.record.now.entry.now c.requires.fields c.requires.e_value c.loop-j.j (omega arith),
       ap (λ (p : Path). p.len) c.path_of-p.ensures,
       ap (λ (p : Path). p.at) c.path_of-p.ensures,
     )
@@ -35,9 +35,9 @@ overflow_add-at c =
       c.loop-j.invariant,
       area-key-inside e c.loop-j.j e.count (omega arith),
       variable_keys e c.requires.e_value,
-      keys_inside e c.args.record.now.held.fields,
-      whole-inside c.args.record.now.number.0 c.args.record.now.held.lies c.args.record.now.in_set,
-      c.args.record.now.held.lies.small,
+      keys_inside e c.requires.fields,
+      whole-inside c.args.record.now.number.0 c.args.record.now.lies_in c.args.record.now.in_set,
+      c.args.record.now.lies_in.small,
       ap (λ (p : Path). p.len) c.path_of-p.ensures,
     )
 
@@ -49,12 +49,12 @@ loop-j-preserved c =
       omega (arith, area-key-turn e c.loop-j.j, c.loop-j.invariant.0, ap (λ (p : Path). p.len) c.path_of-p.ensures),
       c.copy_part.auto.dst ∙ c.loop-j.invariant.1,
       rw (c.copy_part.ensures, c.path_of-p.ensures)
-          (keys_turn e c.args.record.now.held.fields part c.loop-j.area (run part e.body e.room) c.loop-j.at c.loop-j.j h
+          (keys_turn e c.requires.fields part c.loop-j.area (run part e.body e.room) c.loop-j.at c.loop-j.j h
           (omega (
             arith,
             c.bytes-part.ensures.len,
-            c.args.record.now.held.lies.sized,
-            path_inside e c.args.record.now.held.fields c.requires.e_value c.loop-j.j h,
+            c.args.record.now.lies_in.sized,
+            path_inside e c.requires.fields c.requires.e_value c.loop-j.j h,
           ))
           ∙ c.loop-j.invariant.2),
     )
@@ -62,14 +62,14 @@ loop-j-preserved c =
 pub copy_part-requires-2-clause-n_in_bounds_2 : goal.copy_part-requires-2-clause-n_in_bounds_2
 copy_part-requires-2-clause-n_in_bounds_2 c =
     let a = c.args in
-    omega (arith, c.bytes-part.ensures.len, c.args.record.now.held.lies.sized)
+    omega (arith, c.bytes-part.ensures.len, c.args.record.now.lies_in.sized)
 
 pub returns : goal.returns
 returns c =
     let a = c.args in
     let part = c.bytes-part.result.now in
     rw c.copy_part-2.ensures
-    (keys_end a.record.now.entry.now c.args.record.now.held.fields part c.loop-j.area (run part a.record.now.entry.now.body a.record.now.entry.now.room) c.loop-j.at c.loop-j.j (omega arith)
+    (keys_end a.record.now.entry.now c.requires.fields part c.loop-j.area (run part a.record.now.entry.now.body a.record.now.entry.now.room) c.loop-j.at c.loop-j.j (omega arith)
     ∙ c.loop-j.invariant.2
-    ∙ (rw (c.bytes-part.ensures.value ∙ part-is a.record.now.base.now a.record.now.entry.now a.record.now.number.0 c.args.record.now.held.lies)
-    (variable-area a.record.now.base.now a.record.now.entry.now a.record.now.number.0 c.args.record.now.held.fields (whole-inside a.record.now.number.0 c.args.record.now.held.lies c.args.record.now.in_set) a.area.now c.requires.area_len c.requires.e_value)))
+    ∙ (rw (c.bytes-part.ensures.value ∙ part-is a.record.now.base.now a.record.now.entry.now a.record.now.number.0 c.args.record.now.lies_in)
+    (variable-area a.record.now.base.now a.record.now.entry.now a.record.now.number.0 c.requires.fields (whole-inside a.record.now.number.0 c.args.record.now.lies_in c.args.record.now.in_set) a.area.now c.requires.area_len c.requires.e_value)))
