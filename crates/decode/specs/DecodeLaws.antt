@@ -23,8 +23,12 @@ use Rattle.decode.specs.Decoding.{Counted, PathAt}
 -- ---- the paths to each master, counted over the first q slots
 
 -- the path in a slot of a set leads to one of the masters
-pub slot-master : (s : List ℕ) (q : ℕ) → Formed s → q < 4 * sets_of s → is_path_slot s q ≡ true → master_of_slot s q < masters_of s
+slot-master : (s : List ℕ) (q : ℕ) → Formed s → q < 4 * sets_of s → is_path_slot s q ≡ true → master_of_slot s q < masters_of s
 slot-master s q f h e = (f.set (q / 4) (omega arith)).leads (q % 4) (ltb-true (q % 4) (count_of s (q / 4)) e)
+
+-- so one of four
+pub slot_low : (s : List ℕ) (q : ℕ) {u : Bool} {m : ℕ} → Formed s → q < 4 * sets_of s → u ≡ is_path_slot s q → u ≡ true → m ≡ master_of_slot s q → m < 4
+slot_low s q f h e t k = rw k (omega (arith, slot-master s q f h (sym e ∙ t), f.head))
 
 pub path_at : (s : List ℕ) (i j : ℕ) → Formed s → i < sets_of s → j < count_of s i → PathAt s i j
 path_at s i j f h k =
@@ -165,8 +169,6 @@ module _ {ℓ} {A : Type ℓ} (f : ℕ → A) (e : A) where
       (ext_get_or e (set (upto (filled i) n) i (f i)) (upto (filled (i + 1)) n)
       (length-set (upto (filled i) n) i (f i) ∙ length-upto (filled i) n ∙ sym (length-upto (filled (i + 1)) n))
       (λ k l. filled_at n i k h (rw (length-set, length-upto) at l) (same? k i)))
-
--- ---- what decoding makes
 
 -- ---- the sets, one after the other
 
