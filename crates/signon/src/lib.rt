@@ -22,13 +22,10 @@ fn paths_in_place(base: &[u8], t: Schema, e: Entry) -> bool
     requires { VariableIn t e (length base.now) }
     ensures { result ≡ paths_in_place t base.now e }
 {
-    for j in 0..usize::from(e.count) {
+    (0..usize::from(e.count)).all(|j| {
         let p = path_of(e, j);
-        if !on_points::path_in_place(base, e, p, entry_of(t, p.master)) {
-            return false;
-        }
-    }
-    true
+        on_points::path_in_place(base, e, p, entry_of(t, p.master))
+    })
 }
 
 fn set_in_place(base: &[u8], t: Schema, e: Entry) -> bool
@@ -49,12 +46,7 @@ fn sets_in_place(base: &[u8], t: Schema) -> bool
     requires { Laid t (length base.now) }
     ensures { result ≡ all_below (set_placed t base.now) (set_count t) }
 {
-    for i in 0..sets(t) {
-        if !set_in_place(base, t, entry_of(t, EntryNo(i))) {
-            return false;
-        }
-    }
-    true
+    (0..sets(t)).all(|i| set_in_place(base, t, entry_of(t, EntryNo(i))))
 }
 
 // "SINON gives 16 exactly if the data base is not sound"

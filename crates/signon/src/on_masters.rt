@@ -79,10 +79,5 @@ pub fn masters_in_place(base: &[u8], e: Entry) -> bool
     requires master_ok { MasterOk e }
     ensures { result ≡ masters_in_place base.now e }
 {
-    for k in 0..e.records {
-        if !record_in_place(base, e, RecordNo(k + 1)) {
-            return false;
-        }
-    }
-    true
+    (0..e.records).all(|k| record_in_place(base, e, RecordNo(k + 1)))
 }

@@ -1,28 +1,19 @@
-use Rattle.std.proofs.Common.{◌≡◌, refl, sym, ◌∙◌, arith}
-use Rattle.octets.specs.Below.{all_below}
-use Rattle.octets.specs.BelowLaws.{all_below-turn, all_below-fails}
+-- `signon::paths_in_place` meets its contract: the paths are the numbers below their count.
+use Rattle.std.specs.Prelude.{Bool}
+use Rattle.std.proofs.Common.{ℕ, rules, tests, refl, ap, ◌∙◌, arith}
+use Rattle.std.proofs.lemmas.Iterator.{YieldsList-from_range}
+use Rattle.std.proofs.lemmas.Iterator.Search.{all_from_yields_List}
 use Rattle.sound.specs.Linear.{paths_in_place}
-use Rattle.signon.specs.SignOnLaws.{path_read}
+use Rattle.octets.specs.Below.{all_below}
+use Rattle.clean.specs.CleanLaws.{all_upto}
 use Rattle.signon.specs.Judged.{path_placed}
 use Rattle.signon.proofs.paths_in_place.Goals as goal
 
-pub loop-j-init : goal.loop-j-init
-unfolding all_below
-loop-j-init c = refl
-
-pub returns-then-not-path_in_place : goal.returns-then-not-path_in_place
-unfolding paths_in_place
-returns-then-not-path_in_place c =
-    let a = c.args in
-    sym (all_below-fails (path_placed a.t a.base.now a.e) a.e.count c.loop-j.j (omega (arith, c.loop-j-test.true, c.from-j-end.ensures))
-    (sym (path_read a.t a.base.now a.e c.loop-j.j c.path_of-p.ensures c.entry_of.ensures c.path_in_place.ensures) ∙ c.if-not-path_in_place.true))
-
-pub loop-j-preserved : goal.loop-j-preserved
-loop-j-preserved c =
-    let a = c.args in
-    all_below-turn (path_placed a.t a.base.now a.e) c.loop-j.j c.loop-j.invariant
-    (sym (path_read a.t a.base.now a.e c.loop-j.j c.path_of-p.ensures c.entry_of.ensures c.path_in_place.ensures) ∙ c.if-not-path_in_place.false)
-
 pub returns : goal.returns
 unfolding paths_in_place
-returns c = let q : c.loop-j.j ≡ c.args.e.count = omega (arith, c.from-j-end.ensures) in sym (rw q at c.loop-j.invariant)
+returns c =
+    let f : ℕ → Bool = path_placed c.args.t c.args.base.now c.args.e in
+    let n = c.from.result in
+    all_from_yields_List f _ _ _ c.all.ensures.ran (YieldsList-from_range 0 n n refl (omega arith)) (λ x b q k. search (rules, tests))
+    ∙ all_upto f n
+    ∙ ap (all_below f) c.from.ensures

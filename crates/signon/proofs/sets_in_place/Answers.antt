@@ -1,23 +1,17 @@
-use Rattle.std.proofs.Common.{refl, sym, ◌∙◌, arith}
+-- `signon::sets_in_place` meets its contract: the sets are the numbers below their count.
+use Rattle.std.specs.Prelude.{Bool}
+use Rattle.std.proofs.Common.{ℕ, rules, tests, refl, ap, ◌∙◌, arith}
+use Rattle.std.proofs.lemmas.Iterator.{YieldsList-from_range}
+use Rattle.std.proofs.lemmas.Iterator.Search.{all_from_yields_List}
 use Rattle.octets.specs.Below.{all_below}
-use Rattle.octets.specs.BelowLaws.{all_below-turn, all_below-fails}
-use Rattle.schema.specs.Decode.{set_count}
-use Rattle.signon.specs.SignOnLaws.{set_read}
+use Rattle.clean.specs.CleanLaws.{all_upto}
 use Rattle.signon.specs.Judged.{set_placed}
 use Rattle.signon.proofs.sets_in_place.Goals as goal
 
-pub loop-i-init : goal.loop-i-init
-unfolding all_below
-loop-i-init c = refl
-
-pub returns-then-not-set_in_place : goal.returns-then-not-set_in_place
-returns-then-not-set_in_place c =
-    let a = c.args in
-    sym (all_below-fails (set_placed a.t a.base.now) (set_count a.t) c.loop-i.i (omega (arith, c.loop-i-test.true, c.sets-i-end.ensures))
-    (sym (set_read a.t a.base.now c.loop-i.i c.entry_of.ensures c.set_in_place.ensures) ∙ c.if-not-set_in_place.true))
-
-pub loop-i-preserved : goal.loop-i-preserved
-loop-i-preserved c =
-    let a = c.args in
-    all_below-turn (set_placed a.t a.base.now) c.loop-i.i c.loop-i.invariant
-    (sym (set_read a.t a.base.now c.loop-i.i c.entry_of.ensures c.set_in_place.ensures) ∙ c.if-not-set_in_place.false)
+pub returns : goal.returns
+returns c =
+    let f : ℕ → Bool = set_placed c.args.t c.args.base.now in
+    let n = c.sets.result in
+    all_from_yields_List f _ _ _ c.all.ensures.ran (YieldsList-from_range 0 n n refl (omega arith)) (λ x b q k. search (rules, tests))
+    ∙ all_upto f n
+    ∙ ap (all_below f) c.sets.ensures
