@@ -1,5 +1,5 @@
 -- How each call on points ends, from what its code has read.
-use Rattle.std.specs.Prelude.{ℕ, ◌≤◌, ◌≡◌, refl, Bool, true, false, cond, not, ◌&&◌, List, [], ◌∷◌, ◌⊎◌, eqb}
+use Rattle.std.specs.Prelude.{ℕ, ◌≤◌, ◌≡◌, refl, Bool, true, false, cond, not, ◌&&◌, List, [], ◌∷◌, ◌⊎◌, eqb, Option, Some, None, IfSome}
 use Rattle.std.proofs.Common.{sym, ap, ◌∙◌, ⊎_elim, arith, eq-eqb}
 use Rattle.octets.specs.TestLaws.{never_both, neither}
 use Rattle.terms.specs.declared.Status.{Status}
@@ -22,7 +22,7 @@ use Rattle.calls.specs.Ladder.{rest_rungs, refusal, is_link}
 use Rattle.calls.specs.Outcome.{answered}
 use Rattle.calls.proofs.RestLaws.{rest-readv, rest-readr, rest_readd}
 use Rattle.ends.specs.AsksLaws.{found_among}
-use Rattle.ends.specs.Ends.{Ends, gave}
+use Rattle.ends.specs.Ends.{Ends, number_of, gave}
 use Rattle.ends.specs.EndsLaws.{gave-answers}
 use Rattle.ends.specs.Asks.{Asks}
 use Rattle.point_calls.specs.OnPath.{PointCall, read_by, looks_at, OnPath, seek_status, Seen, pointer_on, AnswersOnPath}
@@ -125,3 +125,9 @@ read_low b e p x m key linked n h =
 -- a reference that is no LKxx is a record's number
 pub not-linked : {linked : Bool} (e : Entry) (r link : ℕ) → linked ≡ eqb r link → (r ≡ link) ⊎ InSet e r → linked ≡ false → InSet e r
 not-linked e r link l w f = ⊎_elim (λ z. absurd (never_both (eqb r link) (eq-eqb r link z) (sym l ∙ f))) (λ i. i) w
+
+-- a pointer that is not damaged leads to none, or to a record of the set
+pub pointed_within : {n : ℕ} (e : Entry) (o : Option RecordNo) → number_of o ≡ n → IfSome o (λ (r : RecordNo). 1 ≤ r.0) → n ≤ e.records
+    → IfSome o (λ (r : RecordNo). InSet e r.0)
+pointed_within e (Some r) h k l = (k, omega (arith, h))
+pointed_within e None h k l = tt

@@ -1,9 +1,9 @@
 -- Calls on points: what they have found out when their set and path are known, and when their master and the referenced record are.
-use Rattle.std.specs.Prelude.{ℕ, ◌≤◌, ◌<◌, ◌≡◌, Bool, true, false, cond, not, ◌&&◌, ◌||◌, List, [], ◌∷◌, ◌⊎◌, eqb, ltb, length}
+use Rattle.std.specs.Prelude.{ℕ, ◌≤◌, ◌<◌, ◌≡◌, Bool, true, false, cond, not, ◌&&◌, ◌||◌, List, [], ◌∷◌, ◌⊎◌, eqb, ltb, length, Result, Ok, Err}
 use Rattle.terms.specs.declared.Status.{Status}
-use Rattle.terms.specs.declared.Status.TheVariants.{Done, Fntf, Kind, Ivrp, Mrnf, Damg}
-use Rattle.terms.specs.declared.Status.TheVariants as refusals
-use Rattle.terms.specs.Status.{first_of}
+use Rattle.terms.specs.declared.Status.TheVariants.{Done, Ivrp, Mrnf, Damg}
+use Rattle.terms.specs.declared.Refusal.{Refusal}
+use Rattle.terms.specs.declared.Refusal.TheVariants as refusal
 use Rattle.terms.specs.declared.Operation.{Operation}
 use Rattle.terms.specs.declared.Operation.TheVariants.{AddM, Readv, Readr, Addvc, Addvb, Addva}
 use Rattle.terms.specs.declared.RecordNo.{RecordNo}
@@ -15,7 +15,7 @@ use Rattle.schema.specs.Place.{InSet}
 use Rattle.records.specs.Records.{first_on, last_on, prior_on, next_on}
 use Rattle.records.specs.Areas.{is_master, area_length, area_key_on}
 use Rattle.masters.specs.declared.Found.TheVariants.{At}
-use Rattle.masters.specs.Find.{find, is_missing, is_damaged, record_found}
+use Rattle.masters.specs.Find.{find, is_missing, is_damaged, master_of}
 use Rattle.points.specs.declared.Spot.{Spot}
 use Rattle.points.specs.declared.Spot.TheVariants.{Last, After, Before}
 use Rattle.points.specs.Chains.{is_point_of}
@@ -30,7 +30,6 @@ use Rattle.forms.specs.Form.{rungs_of, form_status}
 use Rattle.ends.specs.Ends.{Ends}
 use Rattle.ends.specs.Asks.{Asks, placed_status, placed_outcome}
 use Rattle.point_calls.specs.declared.Located.{Located}
-use Rattle.point_calls.specs.declared.Sighted.{Sighted}
 
 -- ---- which operations
 
@@ -84,49 +83,37 @@ pub record OnPath (t : Schema) (c : Call) (n : ℕ) (e : Entry) (j : ℕ) (p : P
   pub masters : (scene_under t c).masters ≡ x
   pub edition : (scene_under t c).schema.edition ≡ e.edition
 
--- a refusal of the set or of its path: its first path stands for the one that is not there, and the set itself for the masters
-abbrev pub nowhere_in : Status → Entry → Located
-nowhere_in s e = record { status = s; number = record { 0 = 0 }; entry = e; on = 0; path = path_of e 0; masters = e }
-
 -- 6, on path j of the points e, which are set number i
-abbrev pub taken_on : Schema → ℕ → Entry → ℕ → Located
+abbrev pub taken_on : Schema → ℕ → Entry → ℕ → Result Located Refusal
 taken_on t i e j =
     cond (ltb j e.count)
-    (record {
-      status = Done;
+    (Ok (record {
       number = record { 0 = i };
       entry = e;
       on = j;
       path = path_of e j;
       masters = masters_on t e j;
-    })
-    (nowhere_in refusals.Path e)
+    }))
+    (Err refusal.Path)
 
--- 4 to 6, on set number i, with the path named by w: a number that no set has is refused, with the schema's first set in its place
-abbrev pub located_at : Schema → ℕ → List ℕ → Located
+-- 4 to 6, on set number i, with the path named by w: a number that no set has is refused
+abbrev pub located_at : Schema → ℕ → List ℕ → Result Located Refusal
 located_at t i w =
     cond (ltb i (set_count t))
-    (cond (is_master (entry_of t i)) (nowhere_in Kind (entry_of t i)) (taken_on t i (entry_of t i) (path_named t (entry_of t i) w)))
-    (nowhere_in Fntf (entry_of t 0))
+    (cond (is_master (entry_of t i)) (Err refusal.Kind) (taken_on t i (entry_of t i) (path_named t (entry_of t i) w)))
+    (Err refusal.Fntf)
 
 -- and 7 to 11 by form there
-abbrev pub formed_on : Operation → Located → ℕ → List ℕ → List ℕ → Located
-formed_on o l r k a =
-    record {
-      status = first_of l.status (form_status o l.entry l.on (link_of l.path) l.masters.key r k a);
-      number = l.number;
-      entry = l.entry;
-      on = l.on;
-      path = l.path;
-      masters = l.masters;
-    }
+abbrev pub formed_on : Operation → Located → ℕ → List ℕ → List ℕ → Status
+formed_on o l r k a = form_status o l.entry l.on (link_of l.path) l.masters.key r k a
 
--- what every call that asks with these parameters, and names the path by w, has come to
-pub record Locates (t : Schema) (o : Operation) (n w : List ℕ) (r : ℕ) (k a : List ℕ) (l : Located) : Type 0 where
-  pub status : (c : Call) → Asks c o n r k a c.base → c.path ≡ w → l.status ≡ placed_status t c
-  pub on-path : l.status ≡ Done → (c : Call) → Asks c o n r k a c.base → c.path ≡ w
+-- what every call on a path that is located, asking with these parameters and naming the path by w, has come to; and what is known where
+-- that is done
+pub record Locates (t : Schema) (o : Operation) (n w : List ℕ) (r : ℕ) (k a : List ℕ) (l : Located) (s : Status) : Type 0 where
+  pub status : (c : Call) → Asks c o n r k a c.base → c.path ≡ w → s ≡ placed_status t c
+  pub on-path : s ≡ Done → (c : Call) → Asks c o n r k a c.base → c.path ≡ w
       → OnPath t c l.number.0 l.entry l.on l.path l.masters
-  pub known : l.status ≡ Done → PathKnown t o r k a l.number.0 l.entry l.on l.path l.masters
+  pub known : s ≡ Done → PathKnown t o r k a l.number.0 l.entry l.on l.path l.masters
 
 -- ---- the named master and the referenced record
 
@@ -135,9 +122,13 @@ unfoldable pub seek_status : List ℕ → Entry → Path → Entry → ℕ → L
 seek_status b e p x r key looks =
     cond (is_damaged (find b x key)) Damg (cond (is_missing (find b x key)) Mrnf (cond (looks && not (is_point_of b e p key r)) Ivrp Done))
 
--- that status, and the master's record; 0 where there is none
-abbrev pub sighted_of : List ℕ → Entry → Path → Entry → ℕ → List ℕ → Bool → Sighted
-sighted_of b e p x r key looks = record { status = seek_status b e p x r key looks; master = record { 0 = record_found (find b x key) } }
+-- that status as a refusal, or the master's record
+abbrev pub looked_at : Bool → Result RecordNo Refusal → Result RecordNo Refusal
+looked_at other (Ok m) = cond other (Err refusal.Ivrp) (Ok m)
+looked_at other (Err why) = Err why
+
+abbrev pub sighted_of : List ℕ → Entry → Path → Entry → ℕ → List ℕ → Bool → Result RecordNo Refusal
+sighted_of b e p x r key looks = looked_at (looks && not (is_point_of b e p key r)) (master_of (find b x key))
 
 -- it is done: the master is there, and so is the referenced record where it is looked at
 pub record Seen (b : List ℕ) (e : Entry) (p : Path) (x : Entry) (r : ℕ) (key : List ℕ) (looks : Bool) (m : RecordNo) : Type 0 where

@@ -1,5 +1,5 @@
 -- Calls on points, down the ladder to the forms of their parameters: the set, the path, and what is known of both where all is right.
-use Rattle.std.specs.Prelude.{ℕ, ◌≤◌, ◌<◌, ◌≡◌, Bool, true, false, cond, ◌&&◌, ◌||◌, List, [], ◌⊎◌, eqb, leb, ltb, length}
+use Rattle.std.specs.Prelude.{ℕ, ◌≤◌, ◌<◌, ◌≡◌, Bool, true, false, cond, ◌&&◌, ◌||◌, List, [], ◌⊎◌, eqb, leb, ltb, length, Result, Ok, Err}
 use Rattle.std.proofs.Math.Path.{refl}
 use Rattle.std.proofs.Common.{sym, ◌∙◌, inl, inr, arith, eqb-true, ne_eqb, ltb-true}
 use Rattle.std.proofs.Math.Bool.{not}
@@ -12,8 +12,10 @@ use Rattle.terms.specs.declared.Status.TheVariants as refusals
 use Rattle.terms.specs.declared.Operation.{Operation}
 use Rattle.terms.specs.declared.Operation.TheVariants.{Readv, Readr, Readd, Writv, Addvc, Addvb, Addva, Delvd}
 use Rattle.terms.specs.Terms.{end_ref}
-use Rattle.terms.specs.Status.{first_of}
-use Rattle.terms.specs.Laws.{refused-done, one_passes}
+use Rattle.terms.specs.Status.{first_of, status_by}
+use Rattle.terms.specs.declared.Refusal.{Refusal}
+use Rattle.terms.specs.declared.Refusal.TheVariants as refusal
+use Rattle.terms.specs.Laws.{one_passes}
 use Rattle.terms.specs.Operation.{operation_of}
 use Rattle.schema.specs.declared.Path.{Path}
 use Rattle.schema.specs.declared.Entry.{Entry}
@@ -39,7 +41,7 @@ use Rattle.octets.specs.TestLaws.{asked, either}
 use Rattle.ends.specs.Asks.{Asks, placed_status}
 use Rattle.records.specs.InBase.{Laid, IsPathUnder, IsPathAmong, MastersOf, PointsIn}
 use Rattle.point_calls.specs.declared.Located.{Located}
-use Rattle.point_calls.specs.OnPath.{PointCall, PathKnown, OnPath, nowhere_in, located_at, formed_on, Locates}
+use Rattle.point_calls.specs.OnPath.{PointCall, PathKnown, OnPath, located_at, formed_on, Locates}
 
 -- ---- the eight operations
 
@@ -161,29 +163,35 @@ module _ (t : Schema) (o : Operation) (n w : List ℕ) (r : ℕ) (key area : Lis
       rw (place-points t c o k h.operation, form-points t c o k h.operation, h.name, p, h.reference, h.key, h.area)
       (gather (not (ltb i (set_count t))) (is_master u) (not (ltb j u.count)) form)
 
-  pub locates_path : {l q : Located} → SchemaOk t → q ≡ located_at t (set_named t n) w → l ≡ formed_on o q r key area → Locates t o n w r key area l
-  locates_path ok g h = rw (h, g) (go (ltb i (set_count t)) (is_master u) (ltb j u.count) refl refl refl)
+  abbrev located : (f m g : Bool) → Result Located Refusal
+  located f m g =
+      cond f
+      (cond m (Err refusal.Kind)
+      (cond g (Ok (record { number = record { 0 = i }; entry = u; on = j; path = path_of u j; masters = masters_on t u j })) (Err refusal.Path)))
+      (Err refusal.Fntf)
+
+  -- no set of points has the name, or no path of it
+  pub unlocated : {why : Refusal} → located_at t i w ≡ Err why → (c : Call) → Asks c o n r key area c.base → c.path ≡ w → status_by why ≡ placed_status t c
+  unlocated h c a p = go (ltb i (set_count t)) (is_master u) (ltb j u.count) refl refl refl h
     where
-      go : (f m g : Bool) → ltb i (set_count t) ≡ f → is_master u ≡ m → ltb j u.count ≡ g
-          → Locates t o n w r key area
-          (formed_on o
-          (cond f
-          (cond m (nowhere_in Kind u)
-          (cond g (record { status = Done; number = record { 0 = i }; entry = u; on = j; path = path_of u j; masters = masters_on t u j }) (nowhere_in refusals.Path u)))
-          (nowhere_in Fntf (entry_of t 0)))
-          r key area)
-      go false m g f q s =
-          record { status = λ c h p. rw (all_tests c h p, f) refl; on-path = refused-done {u = Fntf} refl (omega arith); known = refused-done {u = Fntf} refl (omega arith) }
-      go true true g f q s =
-          record { status = λ c h p. rw (all_tests c h p, f, q) refl; on-path = refused-done {u = Kind} refl (omega arith); known = refused-done {u = Kind} refl (omega arith) }
-      go true false false f q s =
-          record {
-            status = λ c h p. rw (all_tests c h p, f, q, s) refl;
-            on-path = refused-done {u = refusals.Path} refl (omega arith);
-            known = refused-done {u = refusals.Path} refl (omega arith);
-          }
-      go true false true f q s =
-          record {
+      go : (f m g : Bool) → ltb i (set_count t) ≡ f → is_master u ≡ m → ltb j u.count ≡ g → {why : Refusal} → located f m g ≡ Err why → status_by why ≡ placed_status t c
+      go false m g f q s {why} h = let z : why ≡ refusal.Fntf = cc in rw (z, all_tests c a p, f) refl
+      go true true g f q s {why} h = let z : why ≡ refusal.Kind = cc in rw (z, all_tests c a p, f, q) refl
+      go true false false f q s {why} h = let z : why ≡ refusal.Path = cc in rw (z, all_tests c a p, f, q, s) refl
+      go true false true f q s h = absurd cc
+
+  pub locates_path : {l : Located} {v : Status} → SchemaOk t → located_at t i w ≡ Ok l → v ≡ formed_on o l r key area → Locates t o n w r key area l v
+  locates_path ok h z = go (ltb i (set_count t)) (is_master u) (ltb j u.count) refl refl refl h z
+    where
+      go : (f m g : Bool) → ltb i (set_count t) ≡ f → is_master u ≡ m → ltb j u.count ≡ g → {l : Located} {v : Status} → located f m g ≡ Ok l
+          → v ≡ formed_on o l r key area → Locates t o n w r key area l v
+      go false m g f q s h z = absurd cc
+      go true true g f q s h z = absurd cc
+      go true false false f q s h z = absurd cc
+      go true false true f q s {l} {v} h z =
+          let same : l ≡ record { number = record { 0 = i }; entry = u; on = j; path = path_of u j; masters = masters_on t u j } = cc in
+          rw (z, same)
+          (record {
             status = λ c h p. rw (all_tests c h p, f, q, s) refl;
             on-path = λ d c h p. record {
               number = number-here t c ∙ (rw h.name refl);
@@ -206,7 +214,7 @@ module _ (t : Schema) (o : Operation) (n w : List ℕ) (r : ℕ) (key area : Lis
               number = number-form o u j (link_of (path_of u j)) (masters_on t u j).key r key area d;
               link = link-form o u j (link_of (path_of u j)) (masters_on t u j).key r key area d;
             };
-          }
+          })
 
 -- a path that is located has its fields
 module _ (t : Schema) (i : ℕ) (w : List ℕ) {n : ℕ} (laid : Laid t n) where
@@ -217,24 +225,24 @@ module _ (t : Schema) (i : ℕ) (w : List ℕ) {n : ℕ} (laid : Laid t n) where
   number = path_named t points w
 
   abbrev Fielded : Located → Type 0
-  Fielded q = q.status ≡ Done → Fields q.entry × (q.on < q.entry.count) × (q.masters.key ≤ 16)
+  Fielded q = Fields q.entry × (q.on < q.entry.count) × (q.masters.key ≤ 16)
 
-  pub located_fields : {q : Located} → q ≡ located_at t i w → Fielded q
-  located_fields h = rw h (go (ltb i (set_count t)) (is_master points) (ltb number points.count) refl refl refl)
+  pub located_fields : {q : Located} → located_at t i w ≡ Ok q → Fielded q
+  located_fields h = go (ltb i (set_count t)) (is_master points) (ltb number points.count) refl refl refl h
     where
-      go : (f m g : Bool) → ltb i (set_count t) ≡ f → is_master points ≡ m → ltb number points.count ≡ g
-          → Fielded
-          (cond f
-          (cond m (nowhere_in Kind points)
-          (cond g (record { status = Done; number = record { 0 = i }; entry = points; on = number; path = path_of points number; masters = masters_on t points number })
-          (nowhere_in refusals.Path points)))
-          (nowhere_in Fntf (entry_of t 0)))
-      go false m g f q s = refused-done {u = Fntf} refl (omega arith)
-      go true true g f q s = refused-done {u = Kind} refl (omega arith)
-      go true false false f q s = refused-done {u = refusals.Path} refl (omega arith)
-      go true false true f q s = λ d.
-          let l = laid.ok.path i number (behind-masters t laid.ok i q, ltb-true _ _ f, ltb-true _ _ s) in
-          (laid.fields i (ltb-true _ _ f), ltb-true _ _ s, (laid.ok.master _ l.master).key_most)
+      go : (f m g : Bool) → ltb i (set_count t) ≡ f → is_master points ≡ m → ltb number points.count ≡ g → {l : Located}
+          → cond f
+          (cond m (Err refusal.Kind)
+          (cond g (Ok (record { number = record { 0 = i }; entry = points; on = number; path = path_of points number; masters = masters_on t points number })) (Err refusal.Path)))
+          (Err refusal.Fntf) ≡ Ok l
+          → Fielded l
+      go false m g f q s h = absurd cc
+      go true true g f q s h = absurd cc
+      go true false false f q s h = absurd cc
+      go true false true f q s {l} h =
+          let same : l ≡ record { number = record { 0 = i }; entry = points; on = number; path = path_of points number; masters = masters_on t points number } = cc in
+          let k = laid.ok.path i number (behind-masters t laid.ok i q, ltb-true _ _ f, ltb-true _ _ s) in
+          rw same (laid.fields i (ltb-true _ _ f), ltb-true _ _ s, (laid.ok.master _ k.master).key_most)
 
 -- ---- in the base
 

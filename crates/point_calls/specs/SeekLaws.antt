@@ -1,5 +1,5 @@
 -- Calls on points behind the forms of their parameters: the named master and the referenced record.
-use Rattle.std.specs.Prelude.{ℕ, ◌<◌, ◌≡◌, refl, Bool, true, false, not, ◌&&◌, ◌||◌, List}
+use Rattle.std.specs.Prelude.{ℕ, ◌<◌, ◌≡◌, refl, Bool, true, false, not, ◌&&◌, ◌||◌, List, Result, Ok, Err}
 use Rattle.std.proofs.Common.{sym, ap, ◌∙◌, arith}
 use Rattle.std.proofs.Math.Bool.{cond, and-eq-true_iff}
 use Rattle.std.proofs.lemmas.Bool.{not-false}
@@ -9,15 +9,16 @@ use Rattle.terms.specs.declared.Status.{Status}
 use Rattle.terms.specs.declared.Status.TheVariants.{Done, Ivrp, Mrnf, Damg}
 use Rattle.terms.specs.declared.Operation.{Operation}
 use Rattle.terms.specs.declared.RecordNo.{RecordNo}
-use Rattle.terms.specs.Status.{status_number}
-use Rattle.terms.specs.Laws.{status-number-one, one_passes}
+use Rattle.terms.specs.declared.Refusal.{Refusal}
+use Rattle.terms.specs.Status.{status_number, status_by, status_of}
+use Rattle.terms.specs.Laws.{refusal-counts, one_passes}
 use Rattle.schema.specs.declared.Path.{Path}
 use Rattle.schema.specs.declared.Entry.{Entry}
 use Rattle.schema.specs.declared.Schema.{Schema}
 use Rattle.records.specs.Records.{is_live, key_on}
 use Rattle.masters.specs.declared.Found.{Found}
 use Rattle.masters.specs.declared.Found.TheVariants.{At, Missing, Damaged}
-use Rattle.masters.specs.Find.{find, is_missing, is_damaged, record_found}
+use Rattle.masters.specs.Find.{find, is_missing, is_damaged, master_of}
 use Rattle.points.specs.Chains.{is_point_of}
 use Rattle.calls.proofs.SceneLaws.{operation-here}
 use Rattle.calls.specs.Call.{Call, Outcome}
@@ -29,26 +30,34 @@ use Rattle.ends.specs.Asks.{Asks, placed_outcome}
 use Rattle.ends.specs.AsksLaws.{given_back, found_among, seek-refuses, seek-passes}
 use Rattle.ends.specs.Ends.{Ends}
 use Rattle.ends.specs.EndsLaws.{refused-ends}
-use Rattle.point_calls.specs.declared.Sighted.{Sighted}
-use Rattle.point_calls.specs.OnPath.{PointCall, looks_at, OnPath, seek_status, sighted_of, Seen, AnswersOnPath, AnswersAmong}
+use Rattle.point_calls.specs.OnPath.{PointCall, looks_at, OnPath, seek_status, looked_at, sighted_of, Seen, AnswersOnPath, AnswersAmong}
 
 -- ---- what the code has read
 
--- a search that refuses nothing has found a record
-found-one : (f : Found) → is_damaged f ≡ false → is_missing f ≡ false → f ≡ At (record { 0 = record_found f })
-found-one (At r) d m = refl
-found-one Missing d m = absurd (let z : ◌≡◌ {A = ℕ} 0 1 = cc in omega arith)
-found-one Damaged d m = absurd (let z : ◌≡◌ {A = ℕ} 0 1 = cc in omega arith)
-
--- the code asks for the number of the status
-pub seen : {q : List ℕ} {n : ℕ} (b : List ℕ) (e : Entry) (p : Path) (x : Entry) (r : ℕ) (key : List ℕ) (looks : Bool) (s : Sighted)
-    → s ≡ sighted_of b e p x r q looks → q ≡ key → n ≡ status_number s.status → n ≡ 0 → Seen b e p x r key looks s.master
+-- the status of what the code has read
+pub sighted-status : (b : List ℕ) (e : Entry) (p : Path) (x : Entry) (r : ℕ) (key : List ℕ) (looks : Bool)
+    → status_of (sighted_of b e p x r key looks) ≡ seek_status b e p x r key looks
 unfolding seek_status
-seen b e p x r key looks s h k w z =
-    let d : seek_status b e p x r key looks ≡ Done = rw (h, k) at (status-number-one s.status Done (sym w ∙ z)) in
-    let f = one_passes (is_damaged (find b x key)) Damg _ (omega arith) d in
-    let g = one_passes (is_missing (find b x key)) Mrnf _ (omega arith) f.1 in
-    rw (h, k) (record { status = d; master = found-one (find b x key) f.0 g.0 })
+sighted-status b e p x r key looks = go (find b x key) (looks && not (is_point_of b e p key r))
+  where
+    go : (f : Found) (z : Bool) → status_of (looked_at z (master_of f)) ≡ cond (is_damaged f) Damg (cond (is_missing f) Mrnf (cond z Ivrp Done))
+    go (At m) true = refl
+    go (At m) false = refl
+    go Missing z = refl
+    go Damaged z = refl
+
+-- a search that refuses nothing has found a record
+found-one : (f : Found) (z : Bool) {m : RecordNo} → looked_at z (master_of f) ≡ Ok m → f ≡ At m
+found-one (At r) true h = absurd cc
+found-one (At r) false h = cc
+found-one Missing z h = absurd cc
+found-one Damaged z h = absurd cc
+
+pub seen : {q : List ℕ} {s : Result RecordNo Refusal} {m : RecordNo} (b : List ℕ) (e : Entry) (p : Path) (x : Entry) (r : ℕ) (key : List ℕ) (looks : Bool)
+    → s ≡ sighted_of b e p x r q looks → q ≡ key → s ≡ Ok m → Seen b e p x r key looks m
+seen b e p x r key looks h k w =
+    let o : sighted_of b e p x r key looks ≡ Ok _ = rw k at (sym h ∙ w) in
+    record { status = sym (sighted-status b e p x r key looks) ∙ ap status_of o; master = found-one (find b x key) (looks && not (is_point_of b e p key r)) o }
 
 pub seen_as : {b : List ℕ} {e : Entry} {p : Path} {x : Entry} {r : ℕ} {key : List ℕ} {looks same : Bool} {m : RecordNo} → looks ≡ same → Seen b e p x r key looks m → Seen b e p x r key same m
 seen_as q h = rw q at h
@@ -108,19 +117,15 @@ module _ (t : Schema) (c : Call) (n : ℕ) (o : Operation) (e : Entry) (on : ℕ
 
 -- ---- refused by the search or by the look
 
-positive : {n : ℕ} (s : Status) → n ≡ status_number s → (n ≡ 0 → ⊥) → 0 < status_number s
-positive s w z = go (status_number s) (λ h. z (w ∙ h))
-  where
-    go : (m : ℕ) → (m ≡ 0 → ⊥) → 0 < m
-    go m h = omega (arith, h)
+module _ {q : List ℕ} {s : Result RecordNo Refusal} {why : Refusal} (o : Operation) (k : PointCall o) (e : Entry) (p : Path) (x : Entry) (r : ℕ) (key area b : List ℕ) (looks : Bool)
+    (w : s ≡ sighted_of b e p x r q looks) (g : q ≡ key) (l : looks ≡ looks_at o p r) (z : s ≡ Err why) where
+  its-status : seek_status b e p x r key (looks_at o p r) ≡ status_by why
+  its-status =
+      let h : sighted_of b e p x r key (looks_at o p r) ≡ Err why = rw (g, l) at (sym w ∙ z) in
+      sym (sighted-status b e p x r key (looks_at o p r)) ∙ ap status_of h
 
-module _ {q : List ℕ} {n : ℕ} (o : Operation) (k : PointCall o) (e : Entry) (p : Path) (x : Entry) (r : ℕ) (key area b : List ℕ) (looks : Bool) (s : Sighted)
-    (w : s ≡ sighted_of b e p x r q looks) (g : q ≡ key) (l : looks ≡ looks_at o p r) (u : n ≡ status_number s.status) (z : n ≡ 0 → ⊥) where
-  its-status : seek_status b e p x r key (looks_at o p r) ≡ s.status
-  its-status = rw (w, ← l, ← g) refl
+  pub by-seek : AnswersOnPath o e p x r key area b (status_by why) r area b
+  by-seek = record { told = λ t c m on h at. refused-here t c m o e on p x r key area b k h at (status_by why) its-status (refusal-counts why) }
 
-  pub by-seek : AnswersOnPath o e p x r key area b s.status r area b
-  by-seek = record { told = λ t c m on h at. refused-here t c m o e on p x r key area b k h at s.status its-status (positive s.status u z) }
-
-  pub by-seek-among : (on : ℕ) (all : List Entry) → AnswersAmong o e on p x all r key area b s.status r area b
+  pub by-seek-among : (on : ℕ) (all : List Entry) → AnswersAmong o e on p x all r key area b (status_by why) r area b
   by-seek-among on all = record { told = λ t c m h at of. by-seek.told t c m on h at }

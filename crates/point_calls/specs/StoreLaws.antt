@@ -16,12 +16,12 @@ use Rattle.records.specs.Records.{key_on, prior_on}
 use Rattle.records.specs.Areas.{area_body, area_key_on}
 use Rattle.records.specs.InBase.{IsPathAmong, masters_kept, MastersOf}
 use Rattle.records.proofs.InBaseLaws.{named-among}
-use Rattle.plans.specs.declared.Planned.{Planned}
+use Rattle.plans.specs.declared.Plan.{Plan}
 use Rattle.blocks.specs.Blocks.{check_by}
 use Rattle.plans.specs.Plan.{Store, store_run}
 use Rattle.plans.specs.Stores.{plan_stores}
 use Rattle.plans.proofs.BodyLaws.{body_stores}
-use Rattle.plans.specs.Made.{body_planned}
+use Rattle.plans.specs.Made.{body_plan}
 use Rattle.masters.specs.declared.Found.TheVariants.{At}
 use Rattle.masters.specs.Find.{find}
 use Rattle.points.specs.declared.Spot.{Spot}
@@ -34,10 +34,12 @@ use Rattle.calls.specs.Scene.{Scene, scene_under}
 use Rattle.calls.specs.Reply.{spot_of, new_record, or_link, given, reference_after, area_after, stores_of}
 use Rattle.calls.specs.Ladder.{rest_rungs, refusal, other_stored_key}
 use Rattle.calls.specs.Outcome.{answered}
-use Rattle.terms.specs.Status.{first_of}
+use Rattle.terms.specs.Status.{first_of, status_by}
+use Rattle.terms.specs.declared.Refusal.{Refusal}
+use Rattle.terms.specs.Laws.{refusal_no_done}
 use Rattle.calls.proofs.RestLaws.{storable, rest-writv}
 use Rattle.ends.specs.Ends.{Ends, settled}
-use Rattle.ends.specs.EndsLaws.{settled-answers}
+use Rattle.ends.specs.EndsLaws.{settled-answers, settled-err}
 use Rattle.ends.specs.Asks.{Asks, placed_outcome}
 use Rattle.point_calls.specs.OnPath.{PointCall, add_at, is_beside, OnPath, Seen, Spotted, AnswersOnPath, AnswersAmong}
 use Rattle.point_calls.specs.PathLaws.{writv-call, addvc-call, addvb-call, addva-call, delvd-call}
@@ -77,8 +79,8 @@ module _ (e : Entry) (p : Path) (x : Entry) (r : ℕ) (key area b : List ℕ) (m
   writv-refused d =
       record { told = λ t c i on h at. rest-refuses t c i Writv e on p x r key area b writv-call h at Keys g.status (writv-rest t c i on h at ∙ (rw d refl)) (omega arith) }
 
-  pub writv-ends : {s : Status} {k : ℕ} {new : List ℕ} (q : Planned) → other_stored_key b e r area ≡ false → q ≡ body_planned (record { 0 = r })
-      → Ends (settled (check_by e.edition) q.status b (plan_stores b e area q.plan) r r area) s k area new → AnswersOnPath Writv e p x r key area b s k area new
+  pub writv-ends : {s : Status} {k : ℕ} {new : List ℕ} (q : Plan) → other_stored_key b e r area ≡ false → q ≡ body_plan (record { 0 = r })
+      → Ends (settled (check_by e.edition) Done b (plan_stores b e area q) r r area) s k area new → AnswersOnPath Writv e p x r key area b s k area new
   writv-ends q d f v =
       record {
         told = λ t c i on h at.
@@ -177,6 +179,14 @@ pub add-ends : {s : Status} {q : ℕ} {new : List ℕ} (e : Entry) (on : ℕ) (p
 add-ends e on p x all r key area b spot m g sp u xs after w v =
     record { told = λ t c i h at of. add-told t e on p x r key area b spot m g sp u xs after (w t of).0 (w t of).1 c i h at v }
 
+-- and where a test of the paths refuses
+pub add-refused : (why : Refusal) (e : Entry) (on : ℕ) (p : Path) (x : Entry) (all : List Entry) (r : ℕ) (key area b : List ℕ) (spot : Spot) (m : RecordNo)
+    → Seen b e p x r key (is_beside spot) m → Spotted spot e p r
+    → ((t : Schema) → MastersOf t e all → status_by why ≡ add_status b t e area spot on) → AnswersAmong (add_at spot) e on p x all r key area b (status_by why) r area b
+add-refused why e on p x all r key area b spot m g sp w =
+    add-ends e on p x all r key area b spot m g sp (status_by why) [] r (λ t of. (w t of, refusal_no_done why))
+    (settled-err (check_by e.edition) (status_by why) b [] r r area why refl)
+
 -- ---- DELVD
 
 delvd-stores : (y : Scene) (c : Call) → y.operation ≡ Delvd → stores_of y c ≡ del_stores c.base y.schema y.entry c.reference
@@ -225,3 +235,10 @@ pub delvd-ends : {s : Status} {q : ℕ} {new : List ℕ} (e : Entry) (on : ℕ) 
     → Ends (settled (check_by e.edition) u b xs after r area) s q area new → AnswersAmong Delvd e on p x all r key area b s q area new
 delvd-ends e on p x all r key area b m g u xs after w l v =
     record { told = λ t c i h at of. delvd-told t e on p x r key area b m g u xs after (w t of).0 (w t of).1 l c i h at v }
+
+pub delvd-refused : (why : Refusal) (e : Entry) (on : ℕ) (p : Path) (x : Entry) (all : List Entry) (r : ℕ) (key area b : List ℕ) (m : RecordNo)
+    → Seen b e p x r key true m → ((t : Schema) → MastersOf t e all → status_by why ≡ del_status b t e r on)
+    → AnswersAmong Delvd e on p x all r key area b (status_by why) r area b
+delvd-refused why e on p x all r key area b m g w =
+    delvd-ends e on p x all r key area b m g (status_by why) [] _ (λ t of. (w t of, refusal_no_done why)) refl
+    (settled-err (check_by e.edition) (status_by why) b [] _ r area why refl)

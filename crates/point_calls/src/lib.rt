@@ -2,27 +2,19 @@
 #![tactic(auto)]
 
 use schema::{Entry, Path};
-use terms::{EntryNo, RecordNo, Status};
+use terms::EntryNo;
 
 pub mod paths;
 pub mod reads;
 pub mod sight;
 pub mod writes;
 
-// The set and the path that a call on points speaks of, and the path's masters, where the status is Done.
+// The set and the path that a call on points speaks of, and the path's masters.
 #[derive(Clone, Copy)]
 pub struct Located {
-    pub status: Status,
     pub number: EntryNo,
     pub entry: Entry,
     pub on: usize,
     pub path: Path,
     pub masters: Entry,
-}
-
-// The record of the named master, where the status is Done.
-#[derive(Clone, Copy)]
-pub struct Sighted {
-    pub status: Status,
-    pub master: RecordNo,
 }

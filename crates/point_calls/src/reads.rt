@@ -1,6 +1,8 @@
 // The reads: READD, READV and READR.
-ghost use Rattle.std.specs.Prelude.{◌≡◌, false, not, ◌⊎◌, eqb, length};
+ghost use Rattle.std.specs.Prelude.{◌≡◌, ◌≤◌, false, not, ◌⊎◌, eqb, length, IfSome};
 ghost use Rattle.terms.specs.Terms.{key_of};
+ghost use Rattle.terms.specs.Status.{status_of};
+ghost use Rattle.ends.specs.Ends.{reference_of, number_of};
 ghost use Rattle.terms.specs.declared.Operation.TheVariants.{Readd};
 ghost use Rattle.schema.specs.Place.{InSet};
 ghost use Rattle.records.specs.Areas.{area_length};
@@ -11,27 +13,28 @@ ghost use Rattle.point_calls.specs.OnPath.{Seen, read_by, pointer_on, AnswersOnP
 
 use super::Located;
 use super::sight::seek;
-use ends::{Answer, ended, give};
+use ends::give;
 use point_plans::damage::{bad_neighbour, uneven_ends};
 use records::fields::{first_on, last_on, next_on, prior_on};
 use schema::layout::record_of;
-use terms::{Key, RecordNo, Reference, Status};
+use terms::{Key, RecordNo, Reference, Refusal};
 
 // READD: the referenced record.
-pub fn readd(l: Located, reference: Reference, key: &[u8], area: &mut [u8], base: &[u8]) -> Answer
+pub fn readd(
+    l: Located,
+    reference: Reference,
+    key: &[u8],
+    area: &mut [u8],
+    base: &[u8],
+) -> Result<Reference, Refusal>
     requires path { IsPath l.entry l.path l.masters (length base.now) }
     requires key_len { length key.now ≡ l.masters.key }
     requires area_len { length area.old ≡ area_length l.entry }
     requires in_set { InSet l.entry reference.0 }
-    ensures { AnswersOnPath Readd l.entry l.path l.masters reference.0 key.now area.old base.now result.status result.reference.0 area.new base.now }
+    ensures { AnswersOnPath Readd l.entry l.path l.masters reference.0 key.now area.old base.now (status_of result) (reference_of reference.0 result) area.new base.now }
 {
-    let k = Key::of(key);
-    let s = seek(base, l, reference.0, k, true);
-    let status = s.status;
-    if status.number() != 0 {
-        return ended(status, reference);
-    }
-    give(base, l.entry, reference.0, area)
+    seek(base, l, reference.0, Key::of(key), true)?;
+    Ok(give(base, l.entry, Some(RecordNo(reference.0)), area))
 }
 
 // The pointer that a read uses: "READV first or next, READR last or prior", the first of each with LKxx.
@@ -74,6 +77,17 @@ fn is_link(l: Located, reference: Reference) -> bool
     reference.0 == link.0
 }
 
+// The record that a pointer leads to: 0 is none.
+fn pointed(n: u32) -> Option<RecordNo>
+    ensures number { number_of result ≡ n }
+    ensures record { IfSome result (λ r. 1 ≤ r.0) }
+{
+    if n == 0 {
+        return None;
+    }
+    Some(RecordNo(n))
+}
+
 // The rest of READV or READR, once the named master m and the referenced record are known.
 fn read_from(
     l: Located,
@@ -83,20 +97,20 @@ fn read_from(
     back: bool,
     area: &mut [u8],
     base: &[u8],
-) -> Answer
+) -> Result<Reference, Refusal>
     requires path { IsPath l.entry l.path l.masters (length base.now) }
     requires len_value { key.len ≡ l.masters.key }
     requires area_len { length area.old ≡ area_length l.entry }
     requires fact { (reference.0 ≡ link_of l.path) ⊎ InSet l.entry reference.0 }
     requires seen { Seen base.now l.entry l.path l.masters reference.0 (key_of key) (not (eqb reference.0 (link_of l.path))) m }
-    ensures { AnswersOnPath (read_by back) l.entry l.path l.masters reference.0 (key_of key) area.old base.now result.status result.reference.0 area.new base.now }
+    ensures { AnswersOnPath (read_by back) l.entry l.path l.masters reference.0 (key_of key) area.old base.now (status_of result) (reference_of reference.0 result) area.new base.now }
 {
     let linked = is_link(l, reference);
     let n = pointer_on(base, l, m, reference.0, linked, back);
     if read_damaged(base, l, m, key, linked, n) {
-        return ended(Status::Damg, reference);
+        return Err(Refusal::Damg);
     }
-    give(base, l.entry, n, area)
+    Ok(give(base, l.entry, pointed(n), area))
 }
 
 // READV, and READR where `back`: "READV with LKxx gives the first record, with a number the one after it; READR the last, or the one
@@ -108,19 +122,15 @@ pub fn read_along(
     back: bool,
     area: &mut [u8],
     base: &[u8],
-) -> Answer
+) -> Result<Reference, Refusal>
     requires path { IsPath l.entry l.path l.masters (length base.now) }
     requires key_len { length key.now ≡ l.masters.key }
     requires area_len { length area.old ≡ area_length l.entry }
     requires fact { (reference.0 ≡ link_of l.path) ⊎ InSet l.entry reference.0 }
-    ensures { AnswersOnPath (read_by back) l.entry l.path l.masters reference.0 key.now area.old base.now result.status result.reference.0 area.new base.now }
+    ensures { AnswersOnPath (read_by back) l.entry l.path l.masters reference.0 key.now area.old base.now (status_of result) (reference_of reference.0 result) area.new base.now }
 {
     let k = Key::of(key);
     let linked = is_link(l, reference);
-    let s = seek(base, l, reference.0, k, !linked);
-    let status = s.status;
-    if status.number() != 0 {
-        return ended(status, reference);
-    }
-    read_from(l, s.master, reference, k, back, area, base)
+    let m = seek(base, l, reference.0, k, !linked)?;
+    read_from(l, m, reference, k, back, area, base)
 }

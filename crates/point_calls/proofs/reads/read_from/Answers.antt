@@ -3,28 +3,32 @@ use mathlib.Core.Bool.{not}
 use Rattle.terms.specs.Terms.{key_of}
 use Rattle.masters.proofs.FindLaws.{find_at}
 use Rattle.point_calls.specs.OnPath.{Seen}
-use Rattle.point_calls.specs.CallLaws.{read-refused, read-ends, read_low, not-linked}
-use Rattle.records.proofs.InBaseLaws.{reached}
-use borrow.Author.Rules.{rules}
+use Rattle.point_calls.specs.CallLaws.{read-refused, read-ends, read_low, not-linked, pointed_within}
 use Rattle.point_calls.proofs.reads.read_from.Goals as goal
+use Rattle.point_calls.proofs.reads.read_from.Goals.{After-pointer_on-n}
 
-pub pointer_on-n-requires : goal.pointer_on-n-requires
-pointer_on-n-requires c =
-    record { reached = reached c.requires.path; in_set = (find_at _ _ _ _ c.requires.seen.master).in_set; in_set_2 = not-linked c.args.l.entry _ _ c.is_link-linked.ensures c.requires.fact }
+pub pointer_on-n-requires-clause-in_set : goal.pointer_on-n-requires-clause-in_set
+pointer_on-n-requires-clause-in_set c = (find_at _ _ _ _ c.requires.seen.master).in_set
 
-pub read_damaged-requires : goal.read_damaged-requires
-read_damaged-requires c =
-    record { reached = reached c.requires.path; in_set = (find_at _ _ _ _ c.requires.seen.master).in_set; len_value = c.requires.len_value }
+pub pointer_on-n-requires-clause-in_set_2 : goal.pointer_on-n-requires-clause-in_set_2
+pointer_on-n-requires-clause-in_set_2 c = not-linked c.args.l.entry _ _ c.is_link-linked.ensures c.requires.fact
+
+pub read_damaged-requires-clause-in_set : goal.read_damaged-requires-clause-in_set
+read_damaged-requires-clause-in_set c = (find_at _ _ _ _ c.requires.seen.master).in_set
+
+saw : (c : After-pointer_on-n) → Seen c.args.base.now c.args.l.entry c.args.l.path c.args.l.masters c.args.reference.0 (key_of c.args.key) (not c.is_link-linked.result) c.args.m
+saw c = rw c.is_link-linked.ensures c.requires.seen
 
 pub returns-then-read_damaged : goal.returns-then-read_damaged
 returns-then-read_damaged c =
-    rw (c.ended.ensures.0, c.ended.ensures.1)
-    (read-refused c.args.back _ _ _ _ _ _ _ _ _ _ c.is_link-linked.ensures ((let by_saw : (let a = c.args in Seen a.base.now a.l.entry a.l.path a.l.masters a.reference.0 (key_of a.key) (not c.is_link-linked.result) a.m) = rw c.is_link-linked.ensures c.requires.seen in by_saw)) c.pointer_on-n.ensures (sym c.read_damaged.ensures ∙ c.if-read_damaged.true))
+    read-refused c.args.back _ _ _ _ _ _ _ _ _ _ c.is_link-linked.ensures (saw (goal.at.returns-then-read_damaged c).After-pointer_on-n) c.pointer_on-n.ensures
+    (sym c.read_damaged.ensures ∙ c.if-read_damaged.true)
 
-pub give-requires : goal.give-requires
-give-requires c =
-    record { lies_in = (reached c.requires.path).points.lies; fields = (reached c.requires.path).points.fields; r_le_records = read_low _ _ _ _ _ _ _ _ (sym c.read_damaged.ensures ∙ c.if-read_damaged.false); area_len = search rules }
+pub give-requires-clause-in_set : goal.give-requires-clause-in_set
+give-requires-clause-in_set c =
+    pointed_within c.args.l.entry _ c.pointed.ensures.number c.pointed.ensures.record (read_low _ _ _ _ _ _ _ _ (sym c.read_damaged.ensures ∙ c.if-read_damaged.false))
 
 pub returns : goal.returns
 returns c =
-    read-ends c.args.back _ _ _ _ _ _ _ _ _ _ c.is_link-linked.ensures ((let by_saw : (let a = c.args in Seen a.base.now a.l.entry a.l.path a.l.masters a.reference.0 (key_of a.key) (not c.is_link-linked.result) a.m) = rw c.is_link-linked.ensures c.requires.seen in by_saw)) c.pointer_on-n.ensures (sym c.read_damaged.ensures ∙ c.if-read_damaged.false) c.give.ensures
+    read-ends c.args.back _ _ _ _ _ _ _ _ _ _ c.is_link-linked.ensures (saw (goal.at.returns c).After-pointer_on-n) c.pointer_on-n.ensures
+    (sym c.read_damaged.ensures ∙ c.if-read_damaged.false) (rw c.pointed.ensures.number at c.give.ensures)

@@ -1,35 +1,50 @@
 use mathlib.Core.Path.{sym, ◌∙◌}
-use native.Mathlib.Omega.{arith}
-use Rattle.point_calls.specs.SeekLaws.{seen, seen_as, by-seek-among}
-use Rattle.point_calls.specs.StoreLaws.{add-call, add-finds, add-ends}
+use Rattle.std.proofs.lemmas.Result.{err_from_is_err_and}
 use Rattle.records.proofs.InBaseLaws.{reached-under, on-among, paths_in}
+use Rattle.point_calls.specs.SeekLaws.{seen, seen_as, by-seek-among}
+use Rattle.point_calls.specs.StoreLaws.{add-call, add-finds, add-refused, add-ends}
 use Rattle.point_calls.proofs.writes.add_at.Goals as goal
 
-pub of-k-requires : goal.of-k-requires
-of-k-requires c =
-    omega (arith, c.requires.key_len, (reached-under c.requires.path_among.under).masters.ok.key_most)
+pub seek-requires-clause-reached : goal.seek-requires-clause-reached
+seek-requires-clause-reached c = reached-under c.requires.path_among.under
 
-pub seek-s-requires : goal.seek-s-requires
-seek-s-requires c =
-    record { reached = reached-under c.requires.path_among.under; len_value = c.of-k.ensures.1 ∙ c.requires.key_len; in_set = λ h. c.requires.spotted.looked (sym c.is_beside-looks.ensures ∙ h) }
+pub seek-requires-clause-in_set : goal.seek-requires-clause-in_set
+seek-requires-clause-in_set c = λ h. c.requires.spotted.looked (sym c.is_beside.ensures ∙ h)
 
-pub returns-then-number-ne0 : goal.returns-then-number-ne0
-returns-then-number-ne0 c =
-    rw (c.ended.ensures.0, c.ended.ensures.1)
-    (by-seek-among _ (add-call c.args.spot) _ _ _ _ _ _ _ _ _ c.seek-s.ensures c.of-k.ensures.0 (c.is_beside-looks.ensures ∙ c.requires.spotted.look) c.number.ensures c.if-number-ne0.true _ _)
+pub returns-in_err-master : goal.returns-in_err-master
+returns-in_err-master c =
+    let p = err_from_is_err_and c.from_residual.result c.from_residual.ensures.1 in
+    rw (p.1, p.2)
+    (by-seek-among _ (add-call c.args.spot) _ _ _ _ _ _ _ _ c.seek.ensures c.of.ensures.0 (c.is_beside.ensures ∙ c.requires.spotted.look) c.in_err-master.was _ _)
 
-pub add-planned-requires : goal.add-planned-requires
-add-planned-requires c =
-    record { paths_in = paths_in c.requires.path_among; area_len = c.requires.area_len; spot_in = c.requires.spotted.in_set; on_lt_count = on-among c.requires.path_among.under; on_value = add-finds _ _ _ _ _ _ _ _ _ _ _ c.requires.path_among (seen _ _ _ _ _ _ _ _ c.seek-s.ensures c.of-k.ensures.0 c.number.ensures c.if-number-ne0.false) c.requires.on_value }
+pub add-requires-clause-paths_in : goal.add-requires-clause-paths_in
+add-requires-clause-paths_in c = paths_in c.requires.path_among
+
+pub add-requires-clause-on_lt_count : goal.add-requires-clause-on_lt_count
+add-requires-clause-on_lt_count c = on-among c.requires.path_among.under
+
+pub add-requires-clause-on_value : goal.add-requires-clause-on_value
+add-requires-clause-on_value c =
+    add-finds _ _ _ _ _ _ _ _ _ _ _ c.requires.path_among (seen _ _ _ _ _ _ _ c.seek.ensures c.of.ensures.0 c.in_ok-master.was) c.requires.on_value
+
+pub returns-in_err-plan : goal.returns-in_err-plan
+returns-in_err-plan c =
+    let p = err_from_is_err_and c.from_residual-in_err-plan.result c.from_residual-in_err-plan.ensures.1 in
+    rw (p.1, p.2)
+    (add-refused _ _ _ _ _ _ _ _ _ _ _ _
+    (seen_as c.is_beside.ensures (seen _ _ _ _ _ _ _ c.seek.ensures c.of.ensures.0 c.in_ok-master.was))
+    c.requires.spotted (λ t of. rw c.in_err-plan.was at (c.add.ensures.status t of)))
 
 pub settle-requires : goal.settle-requires
 settle-requires c =
     let points = (reached-under c.requires.path_among.under).points in
-    record { lies_in = points.lies; fields = points.fields; plan_ok = λ d. let w = (c.add-planned.ensures.status_value c.requires.path_among.schema c.requires.path_among.kept).1 d in (w.1, rw w.3 c.requires.area_len) }
+    let w = rw c.in_ok-plan.was at (c.add.ensures.plan c.requires.path_among.schema c.requires.path_among.kept) in
+    record { lies_in = points.lies; fields = points.fields; plan_ok = w.1; area_ok = rw w.3 c.requires.area_len }
 
 pub returns : goal.returns
 returns c =
     add-ends _ _ _ _ _ _ _ _ _ _ _
-    (seen_as c.is_beside-looks.ensures (seen _ _ _ _ _ _ _ _ c.seek-s.ensures c.of-k.ensures.0 c.number.ensures c.if-number-ne0.false))
+    (seen_as c.is_beside.ensures (seen _ _ _ _ _ _ _ c.seek.ensures c.of.ensures.0 c.in_ok-master.was))
     c.requires.spotted _ _ _
-    (λ t of. let w = c.add-planned.ensures.status_value t of in (w.0, λ d. ((w.1 d).0, c.number-after.ensures ∙ (w.1 d).2))) c.settle.ensures
+    (λ t of. let w = rw c.in_ok-plan.was at (c.add.ensures.plan t of) in (rw c.in_ok-plan.was at (c.add.ensures.status t of), λ d. (w.0, c.number.ensures ∙ w.2)))
+    (c.settle.ensures c.args.reference.0)

@@ -1,40 +1,40 @@
 use mathlib.Core.Path.{refl, ap, ◌∙◌}
-use native.Mathlib.Omega.{arith}
+use Rattle.std.proofs.lemmas.Result.{err_from_is_err_and}
 use Rattle.calls.specs.Reply.{or_link}
+use Rattle.records.proofs.InBaseLaws.{reached-under, paths_in}
 use Rattle.point_calls.specs.PathLaws.{delvd-call}
 use Rattle.point_calls.specs.SeekLaws.{seen, by-seek-among}
-use Rattle.point_calls.specs.StoreLaws.{delvd-finds, delvd-ends}
-use Rattle.records.proofs.InBaseLaws.{reached-under, on-among, paths_in}
+use Rattle.point_calls.specs.StoreLaws.{delvd-finds, delvd-refused, delvd-ends}
 use Rattle.point_calls.proofs.writes.delvd.Goals as goal
 
-pub of-k-requires : goal.of-k-requires
-of-k-requires c =
-    omega (arith, c.requires.key_len, (reached-under c.requires.path_among.under).masters.ok.key_most)
+pub returns-in_err-master : goal.returns-in_err-master
+returns-in_err-master c =
+    let p = err_from_is_err_and c.from_residual.result c.from_residual.ensures.1 in
+    rw (p.1, p.2) (by-seek-among _ delvd-call _ _ _ _ _ _ _ _ c.seek.ensures c.of.ensures.0 refl c.in_err-master.was _ _)
 
-pub seek-s-requires : goal.seek-s-requires
-seek-s-requires c =
-    record { reached = reached-under c.requires.path_among.under; len_value = c.of-k.ensures.1 ∙ c.requires.key_len; in_set = λ h. c.requires.in_set }
+pub delete-requires-clause-paths_in : goal.delete-requires-clause-paths_in
+delete-requires-clause-paths_in c = paths_in c.requires.path_among
 
-pub returns-then-number-ne0 : goal.returns-then-number-ne0
-returns-then-number-ne0 c =
-    rw (c.ended.ensures.0, c.ended.ensures.1)
-    (by-seek-among _ delvd-call _ _ _ _ _ _ _ _ _ c.seek-s.ensures c.of-k.ensures.0 refl c.number.ensures c.if-number-ne0.true _ _)
+pub delete-requires-clause-on_value : goal.delete-requires-clause-on_value
+delete-requires-clause-on_value c =
+    delvd-finds _ _ _ _ _ _ _ _ _ c.requires.path_among (seen _ _ _ _ _ _ _ c.seek.ensures c.of.ensures.0 c.in_ok-master.was)
 
-pub prior_on-prior-requires : goal.prior_on-prior-requires
-prior_on-prior-requires c =
-    record { in_set = c.requires.in_set; lies_in = (reached-under c.requires.path_among.under).points.lies; len_bound = (reached-under c.requires.path_among.under).path.inside }
-
-pub delete-planned-requires : goal.delete-planned-requires
-delete-planned-requires c =
-    record { paths_in = paths_in c.requires.path_among; in_set = c.requires.in_set; on_lt_count = on-among c.requires.path_among.under; on_value = delvd-finds _ _ _ _ _ _ _ _ _ c.requires.path_among (seen _ _ _ _ _ _ _ _ c.seek-s.ensures c.of-k.ensures.0 c.number.ensures c.if-number-ne0.false) }
+pub returns-in_err-plan : goal.returns-in_err-plan
+returns-in_err-plan c =
+    let p = err_from_is_err_and c.from_residual-in_err-plan.result c.from_residual-in_err-plan.ensures.1 in
+    rw (p.1, p.2)
+    (delvd-refused _ _ _ _ _ _ _ _ _ _ _ (seen _ _ _ _ _ _ _ c.seek.ensures c.of.ensures.0 c.in_ok-master.was)
+    (λ t of. rw c.in_err-plan.was at (c.delete.ensures.status t of)))
 
 pub settle-requires : goal.settle-requires
 settle-requires c =
     let points = (reached-under c.requires.path_among.under).points in
-    record { lies_in = points.lies; fields = points.fields; plan_ok = λ d. let w = (c.delete-planned.ensures.status_value c.requires.path_among.schema c.requires.path_among.kept).1 d in (w.1, rw w.2 tt) }
+    let w = rw c.in_ok-plan.was at (c.delete.ensures.plan c.requires.path_among.schema c.requires.path_among.kept) in
+    record { lies_in = points.lies; fields = points.fields; plan_ok = w.1; area_ok = rw w.2 tt }
 
 pub returns : goal.returns
 returns c =
     delvd-ends _ _ _ _ _ _ _ _ _ _
-    (seen _ _ _ _ _ _ _ _ c.seek-s.ensures c.of-k.ensures.0 c.number.ensures c.if-number-ne0.false) _ _ _
-    (λ t of. let w = c.delete-planned.ensures.status_value t of in (w.0, λ d. (w.1 d).0 _)) (c.or_link-after.ensures ∙ ap (or_link c.args.l.path) c.prior_on-prior.ensures) c.settle.ensures
+    (seen _ _ _ _ _ _ _ c.seek.ensures c.of.ensures.0 c.in_ok-master.was) _ _ _
+    (λ t of. let w = rw c.in_ok-plan.was at (c.delete.ensures.plan t of) in (rw c.in_ok-plan.was at (c.delete.ensures.status t of), λ d. w.0 _))
+    (c.or_link-after.ensures ∙ ap (or_link c.args.l.path) c.prior_on.ensures) (c.settle.ensures c.args.reference.0)
