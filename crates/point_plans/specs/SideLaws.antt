@@ -35,7 +35,7 @@ use Rattle.points.specs.Points.{master_on, damaged_on}
 use Rattle.point_plans.specs.Rest.{other_masters}
 use Rattle.point_plans.specs.Paths.{no_part, owner_on, master_at, key_at, clean_at, damaged, side_words, words_on, words_below}
 use Rattle.point_plans.specs.Within.{OwnersIn, LinkIn}
-use Rattle.records.specs.InBase.{masters_kept, MastersOf, PointsIn, MastersIn, PathsIn}
+use Rattle.records.specs.InBase.{masters_kept, MastersOf, PointsIn, MastersIn}
 use Rattle.point_plans.specs.PathLaws.{HasMaster, others-held, filled_at}
 use Rattle.point_plans.specs.DamageLaws.{last_from_lem, uneven_from}
 
@@ -120,13 +120,13 @@ pub record Known (b : List ℕ) (x : ℕ → Entry) (e : Entry) (key : ℕ → L
   pub owned : (k : ℕ) → k < e.count → get_or owners k no_part ≡ owner_on b x key k
 
 -- what the search for the other masters leaves where it refuses none: `read` are the keys as they were read
-pub known_of : (b : List ℕ) (e : Entry) (masters : List Entry) (on : ℕ) (absent : Status) (read key : ℕ → List ℕ) (owners : List Part) (m : RecordNo) → PathsIn e masters (length b)
-    → ((k : ℕ) → k < e.count → read k ≡ key k) → is_done absent ≡ false → other_masters b (masters_kept masters) on absent key e.count ≡ Done → find b (masters_kept masters on) (key on) ≡ At m
+pub known_of : (b : List ℕ) (e : Entry) (masters : List Entry) (on : ℕ) (absent : Status) (read key : ℕ → List ℕ) (owners : List Part) (m : RecordNo) → PointsIn e (length b)
+    → ((k : ℕ) → k < e.count → MastersIn (masters_kept masters k) (path_of e k) (length b)) → ((k : ℕ) → k < e.count → read k ≡ key k) → is_done absent ≡ false → other_masters b (masters_kept masters) on absent key e.count ≡ Done → find b (masters_kept masters on) (key on) ≡ At m
     → take e.count owners ≡ upto (owner_on b (masters_kept masters) read) e.count → Known b (masters_kept masters) e key owners
-known_of b e masters on absent read key owners m v same a done named filled =
+known_of b e masters on absent read key owners m points masters_in same a done named filled =
     record {
-      points = v.points;
-      masters = v.masters;
+      points = points;
+      masters = masters_in;
       held = others-held b (masters_kept masters) on absent key e.count m a done named;
       owned = λ k l. filled_at (owner_on b (masters_kept masters) read) owners e.count no_part filled k l ∙ (rw (same k l));
     }

@@ -23,15 +23,16 @@ ghost use Rattle.point_plans.specs.Within.{OwnersIn, KeysIn, LinksIn, SpotIn};
 ghost use Rattle.records.specs.InBase.{masters_kept, MastersOf, PointsIn, PathsIn};
 ghost use Rattle.point_plans.specs.Plans.{Built};
 
+use held::{Paths, Points};
 use plans::{Head, Plan};
 use points::Spot;
 use records::Link;
 use scan::lowest_free;
-use schema::layout::record_of;
 use schema::{Entry, Part};
 use terms::{RecordNo, Refusal};
 
 pub mod damage;
+pub mod held;
 pub mod links;
 pub mod search;
 pub mod sides;
@@ -41,14 +42,6 @@ pub mod sides;
 pub struct NamedPath {
     pub on: usize,
     pub master: RecordNo,
-}
-
-// The number of a new record, if the set is not full. Its prior neighbour on the named path is not tested yet, and has no say in it.
-fn new_place(base: &[u8], e: Entry, prior: u32) -> Option<RecordNo>
-    requires { PointsIn e (length base.now) }
-    ensures { result ≡ record_up_to e.records (new_place base.now e prior) }
-{
-    lowest_free(base, e)
 }
 
 // The plan of an add, for the record that it takes.
@@ -77,53 +70,89 @@ fn unlinked_plan(e: Entry, owners: [Part; 4], links: [Link; 4], r: RecordNo) -> 
     sides::with_sides(plan, e, owners, links, links).with_wiped(r)
 }
 
-// The rest of an add, once every path's master is found: "15; 16".
-fn add_known(
-    base: &[u8],
-    e: Entry,
-    area: &[u8],
-    at: [usize; 4],
-    owners: [Part; 4],
-    spot: Spot,
-    on: usize,
-) -> Result<Plan, Refusal>
-    requires points_in { PointsIn e (length base.now) }
-    requires keys_in { KeysIn e at (length area.now) }
-    requires owners_in { OwnersIn e owners (length base.now) }
-    requires spot_in { SpotIn spot e }
-    requires on_lt_count { on < e.count }
-    ensures status { status_of result ≡ cond (is_full base.now e) Full (cond (damaged base.now e area.now at owners (new_links base.now e owners spot on)) Damg Done) }
-    ensures built { IfOk result (Built e owners (new_links base.now e owners spot on) (both_on e (place_at base.now e owners spot on)) Variable (place_at base.now e owners spot on) 0) }
-{
-    let links = links::new_links(base, e, owners, spot, on);
-    let place = new_place(base, e, links[on].prior).ok_or(Refusal::Full)?;
-    if damage::any_damaged(base, e, area, at, owners, links) {
-        return Err(Refusal::Damg);
+impl<'a> Points<'a> {
+    // The number of a new record, if the set is not full. Its prior neighbour on the named path is not tested yet, and has no say in it.
+    fn new_place(&self, prior: u32) -> Option<RecordNo>
+        ensures { result ≡ record_up_to self.now.entry.now.records (new_place self.now.base.now self.now.entry.now prior) }
+    {
+        lowest_free(self.base, *self.entry)
     }
-    Ok(linked_plan(e, owners, links, place))
+
+    // The rest of an add, once every path's master is found: "15; 16".
+    fn add_known(
+        &self,
+        area: &[u8],
+        at: [usize; 4],
+        owners: [Part; 4],
+        spot: Spot,
+        on: usize,
+    ) -> Result<Plan, Refusal>
+        requires keys_in { KeysIn self.now.entry.now at (length area.now) }
+        requires owners_in { OwnersIn self.now.entry.now owners (length self.now.base.now) }
+        requires spot_in { SpotIn spot self.now.entry.now }
+        requires on_lt_count { on < self.now.entry.now.count }
+        ensures status { status_of result ≡ cond (is_full self.now.base.now self.now.entry.now) Full (cond (damaged self.now.base.now self.now.entry.now area.now at owners (new_links self.now.base.now self.now.entry.now owners spot on)) Damg Done) }
+        ensures built { IfOk result (Built self.now.entry.now owners (new_links self.now.base.now self.now.entry.now owners spot on) (both_on self.now.entry.now (place_at self.now.base.now self.now.entry.now owners spot on)) Variable (place_at self.now.base.now self.now.entry.now owners spot on) 0) }
+    {
+        let links = self.new_links(owners, spot, on);
+        let place = self.new_place(links[on].prior).ok_or(Refusal::Full)?;
+        if self.any_damaged(area, at, owners, links) {
+            return Err(Refusal::Damg);
+        }
+        Ok(linked_plan(*self.entry, owners, links, place))
+    }
+
+    // The rest of DELVD of the record r, whose keys stand at `at` of its part.
+    fn delete_known(
+        &self,
+        r: RecordNo,
+        part: &[u8],
+        at: [usize; 4],
+        owners: [Part; 4],
+    ) -> Result<Plan, Refusal>
+        requires keys_in { KeysIn self.now.entry.now at (length part.now) }
+        requires owners_in { OwnersIn self.now.entry.now owners (length self.now.base.now) }
+        requires in_set { InSet self.now.entry.now r.0 }
+        ensures status { status_of result ≡ cond (damaged self.now.base.now self.now.entry.now part.now at owners (own_links self.now.base.now self.now.entry.now r.0)) Damg Done }
+        ensures built { IfOk result (Built self.now.entry.now owners (own_links self.now.base.now self.now.entry.now r.0) (own_links self.now.base.now self.now.entry.now r.0) Nothing r.0 r.0) }
+    {
+        let links = self.own_links(r);
+        if self.any_damaged(part, at, owners, links) {
+            return Err(Refusal::Damg);
+        }
+        Ok(unlinked_plan(*self.entry, owners, links, r))
+    }
 }
 
-// The rest of DELVD of the record r, whose keys stand at `at` of its part.
-fn delete_known(
-    base: &[u8],
-    e: Entry,
-    r: RecordNo,
-    part: &[u8],
-    at: [usize; 4],
-    owners: [Part; 4],
-) -> Result<Plan, Refusal>
-    requires points_in { PointsIn e (length base.now) }
-    requires keys_in { KeysIn e at (length part.now) }
-    requires owners_in { OwnersIn e owners (length base.now) }
-    requires in_set { InSet e r.0 }
-    ensures status { status_of result ≡ cond (damaged base.now e part.now at owners (own_links base.now e r.0)) Damg Done }
-    ensures built { IfOk result (Built e owners (own_links base.now e r.0) (own_links base.now e r.0) Nothing r.0 r.0) }
-{
-    let links = links::own_links(base, e, r);
-    if damage::any_damaged(base, e, part, at, owners, links) {
-        return Err(Refusal::Damg);
+impl<'a> Paths<'a> {
+    // An add, once the named path's master and the referenced record are known: what is left to refuse, or the plan of the new record.
+    pub fn add(&self, area: &[u8], spot: Spot, named: NamedPath) -> Result<Plan, Refusal>
+        requires area_len { length area.now ≡ area_length self.now.entry.now }
+        requires spot_in { SpotIn spot self.now.entry.now }
+        requires on_lt_count { named.on < self.now.entry.now.count }
+        requires on_value { find self.now.base.now (masters_kept self.now.masters.now named.on) (area_key_on self.now.entry.now area.now named.on) ≡ At named.master }
+        ensures status { (t : Schema) → MastersOf t self.now.entry.now self.now.masters.now → status_of result ≡ add_status self.now.base.now t self.now.entry.now area.now spot named.on }
+        ensures plan { (t : Schema) → MastersOf t self.now.entry.now self.now.masters.now → IfOk result (λ plan. (plan_stores self.now.base.now self.now.entry.now area.now plan ≡ add_stores self.now.base.now t self.now.entry.now area.now spot named.on (add_place self.now.base.now t self.now.entry.now area.now spot named.on)) × PlanOk (length self.now.base.now) self.now.entry.now plan × (plan.target.0 ≡ add_place self.now.base.now t self.now.entry.now area.now spot named.on) × (plan.head ≡ Variable)) }
+    {
+        let at = search::area_places(*self.entry);
+        let owners = self.all_owners(area, at, named, Refusal::Mrnf)?;
+        self.points().add_known(area, at, owners, spot, named.on)
     }
-    Ok(unlinked_plan(e, owners, links, r))
+
+    // DELVD of the record r, once it and the named path's master are known.
+    pub fn delete(&self, r: RecordNo, named: NamedPath) -> Result<Plan, Refusal>
+        requires in_set { InSet self.now.entry.now r.0 }
+        requires on_lt_count { named.on < self.now.entry.now.count }
+        requires on_value { find self.now.base.now (masters_kept self.now.masters.now named.on) (key_on self.now.base.now self.now.entry.now r.0 (path_of self.now.entry.now named.on)) ≡ At named.master }
+        ensures status { (t : Schema) → MastersOf t self.now.entry.now self.now.masters.now → status_of result ≡ del_status self.now.base.now t self.now.entry.now r.0 named.on }
+        ensures plan { (t : Schema) → MastersOf t self.now.entry.now self.now.masters.now → IfOk result (λ plan. ((area : List ℕ) → plan_stores self.now.base.now self.now.entry.now area plan ≡ del_stores self.now.base.now t self.now.entry.now r.0) × PlanOk (length self.now.base.now) self.now.entry.now plan × (plan.head ≡ Nothing)) }
+    {
+        let points = self.points();
+        let part = points.record(r).bytes();
+        let at = search::record_places(*self.entry);
+        let owners = self.all_owners(part, at, named, Refusal::Damg)?;
+        points.delete_known(r, part, at, owners)
+    }
 }
 
 // An add, once the named path's master and the referenced record are known: what is left to refuse, or the plan of the new record. `masters`
@@ -144,9 +173,7 @@ pub fn add(
     ensures status { (t : Schema) → MastersOf t e masters → status_of result ≡ add_status base.now t e area.now spot named.on }
     ensures plan { (t : Schema) → MastersOf t e masters → IfOk result (λ plan. (plan_stores base.now e area.now plan ≡ add_stores base.now t e area.now spot named.on (add_place base.now t e area.now spot named.on)) × PlanOk (length base.now) e plan × (plan.target.0 ≡ add_place base.now t e area.now spot named.on) × (plan.head ≡ Variable)) }
 {
-    let at = search::area_places(e);
-    let owners = search::all_owners(base, e, masters, area, at, named, Refusal::Mrnf)?;
-    add_known(base, e, area, at, owners, spot, named.on)
+    Paths::of(base, &e, &masters).add(area, spot, named)
 }
 
 // DELVD of the record r, once it and the named path's master are known.
@@ -164,8 +191,5 @@ pub fn delete(
     ensures status { (t : Schema) → MastersOf t e masters → status_of result ≡ del_status base.now t e r.0 named.on }
     ensures plan { (t : Schema) → MastersOf t e masters → IfOk result (λ plan. ((area : List ℕ) → plan_stores base.now e area plan ≡ del_stores base.now t e r.0) × PlanOk (length base.now) e plan × (plan.head ≡ Nothing)) }
 {
-    let part = record_of(base, e, r);
-    let at = search::record_places(e);
-    let owners = search::all_owners(base, e, masters, part, at, named, Refusal::Damg)?;
-    delete_known(base, e, r, part, at, owners)
+    Paths::of(base, &e, &masters).delete(r, named)
 }

@@ -12,13 +12,14 @@ ghost use Rattle.masters.specs.Find.{find};
 ghost use Rattle.point_plans.specs.Rest.{other_masters};
 ghost use Rattle.point_plans.specs.Paths.{no_part, owner_of, owner_on, key_at};
 ghost use Rattle.point_plans.specs.Within.{KeysIn};
-ghost use Rattle.records.specs.InBase.{masters_kept, MastersIn, PathsIn};
+ghost use Rattle.records.specs.InBase.{masters_kept};
 
 use super::NamedPath;
+use super::held::Paths;
 use masters::Found;
-use masters::walk::find;
+use masters::held::Masters;
 use schema::layout::{part_of, path_of};
-use schema::{Entry, Part, Path};
+use schema::{Entry, Part};
 use terms::{Key, Refusal};
 
 // Where the paths' keys stand in an area of the set.
@@ -49,62 +50,57 @@ pub fn record_places(e: Entry) -> [usize; 4]
     at
 }
 
-// The master of a key among the masters x of path p: where its record lies.
-fn owner_among(base: &[u8], x: Entry, p: Path, key: Key, absent: Refusal) -> Result<Part, Refusal>
-    requires masters_in { MastersIn x p (length base.now) }
-    requires len_value { key.len ≡ p.len }
-    ensures { result ≡ owner_of absent x (find base.now x (key_of key)) }
+// The master of a key among the masters of its path: where its record lies.
+fn owner_among(masters: &Masters, key: Key, absent: Refusal) -> Result<Part, Refusal>
+    requires { key.len ≡ masters.now.entry.now.key }
+    ensures { result ≡ owner_of absent masters.now.entry.now (find masters.now.base.now masters.now.entry.now (key_of key)) }
 {
-    match find(base, x, key).found {
-        Found::At(m) => Ok(part_of(x, m)),
+    match masters.find(key).found {
+        Found::At(m) => Ok(part_of(*masters.entry, m)),
         Found::Missing => Err(absent),
         Found::Damaged => Err(Refusal::Damg),
     }
 }
 
-// The master of path k, whose masters are x; the named path's is known already.
+// The master of path k; the named path's is known already.
 fn owner_on(
-    base: &[u8],
-    x: Entry,
-    p: Path,
+    masters: &Masters,
     key: Key,
     k: usize,
     named: NamedPath,
     absent: Refusal,
 ) -> Result<Part, Refusal>
-    requires masters_in { MastersIn x p (length base.now) }
-    requires len_value { key.len ≡ p.len }
-    requires key_value { k ≡ named.on → find base.now x (key_of key) ≡ At named.master }
-    ensures { result ≡ owner_of absent x (find base.now x (key_of key)) }
+    requires len_value { key.len ≡ masters.now.entry.now.key }
+    requires key_value { k ≡ named.on → find masters.now.base.now masters.now.entry.now (key_of key) ≡ At named.master }
+    ensures { result ≡ owner_of absent masters.now.entry.now (find masters.now.base.now masters.now.entry.now (key_of key)) }
 {
     if k == named.on {
-        return Ok(part_of(x, named.master));
+        return Ok(part_of(*masters.entry, named.master));
     }
-    owner_among(base, x, p, key, absent)
+    owner_among(masters, key, absent)
 }
 
-// "the other paths' masters in path order": the first refusal, or where every path's master lies. `masters` are those of each path.
-pub fn all_owners(
-    base: &[u8],
-    e: Entry,
-    masters: [Entry; 4],
-    src: &[u8],
-    at: [usize; 4],
-    named: NamedPath,
-    absent: Refusal,
-) -> Result<[Part; 4], Refusal>
-    requires paths_in { PathsIn e masters (length base.now) }
-    requires keys_in { KeysIn e at (length src.now) }
-    requires on_value { find base.now (masters_kept masters named.on) (key_at src.now e at named.on) ≡ At named.master }
-    ensures status { status_of result ≡ other_masters base.now (masters_kept masters) named.on (status_by absent) (key_at src.now e at) e.count }
-    ensures found { IfOk result (λ parts. take e.count parts ≡ upto (owner_on base.now (masters_kept masters) (key_at src.now e at)) e.count) }
-    ensures rest { IfOk result (λ parts. drop e.count parts ≡ drop e.count (replicate 4 no_part)) }
-{
-    let mut parts = [Part { at: 0, size: 0 }; 4];
-    for k in 0..e.count as usize {
-        let p = path_of(e, k);
-        let key = Key::part(src, at[k], p.len as usize);
-        parts[k] = owner_on(base, masters[k], p, key, k, named, absent)?;
+impl<'a> Paths<'a> {
+    // "the other paths' masters in path order": the first refusal, or where every path's master lies.
+    pub fn all_owners(
+        &self,
+        src: &[u8],
+        at: [usize; 4],
+        named: NamedPath,
+        absent: Refusal,
+    ) -> Result<[Part; 4], Refusal>
+        requires keys_in { KeysIn self.now.entry.now at (length src.now) }
+        requires on_value { find self.now.base.now (masters_kept self.now.masters.now named.on) (key_at src.now self.now.entry.now at named.on) ≡ At named.master }
+        ensures status { status_of result ≡ other_masters self.now.base.now (masters_kept self.now.masters.now) named.on (status_by absent) (key_at src.now self.now.entry.now at) self.now.entry.now.count }
+        ensures found { IfOk result (λ parts. take self.now.entry.now.count parts ≡ upto (owner_on self.now.base.now (masters_kept self.now.masters.now) (key_at src.now self.now.entry.now at)) self.now.entry.now.count) }
+        ensures rest { IfOk result (λ parts. drop self.now.entry.now.count parts ≡ drop self.now.entry.now.count (replicate 4 no_part)) }
+    {
+        let mut parts = [Part { at: 0, size: 0 }; 4];
+        for k in 0..self.entry.count as usize {
+            let p = path_of(*self.entry, k);
+            let key = Key::part(src, at[k], p.len as usize);
+            parts[k] = owner_on(&self.masters_on(k), key, k, named, absent)?;
+        }
+        Ok(parts)
     }
-    Ok(parts)
 }

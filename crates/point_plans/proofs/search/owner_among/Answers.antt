@@ -6,7 +6,7 @@ use Rattle.point_plans.proofs.search.owner_among.Goals as goal
 
 pub part_of-requires : goal.part_of-requires
 part_of-requires c =
-    record { in_set = (find_at _ _ _ _ (sym c.find.ensures.found_value ∙ c.in-At.is)).in_set; lies_in = lies_most c.requires.masters_in.lies }
+    record { in_set = (find_at _ _ _ _ (sym c.find.ensures.found_value ∙ c.in-At.is)).in_set; lies_in = lies_most c.args.masters.now.lies_in }
 
 pub returns-in-At : goal.returns-in-At
 returns-in-At c = rw (sym c.find.ensures.found_value ∙ c.in-At.is, c.part_of.ensures)

@@ -1,4 +1,4 @@
--- `point_plans::add_known` meets its contract: full, damaged, or a plan.
+-- `point_plans::Points::add_known` meets its contract: full, damaged, or a plan.
 use mathlib.Core.Path.{◌≡◌, refl, sym, ap, ◌∙◌}
 use mathlib.Core.List.{List}
 use Prim.Native.Nat.{ℕ}
@@ -22,7 +22,7 @@ use Rattle.point_plans.specs.WithinLaws.{owners_most}
 use Rattle.records.proofs.InBaseLaws.{points_most}
 use Rattle.point_plans.specs.DamageLaws.{damaged-kept, links_in}
 use Rattle.point_plans.specs.PlanLaws.{linked-same}
-use Rattle.point_plans.proofs.add_known.Goals as goal
+use Rattle.point_plans.proofs.held.Points.add_known.Goals as goal
 
 -- there is no place in a full set, and one in a set that is not
 module _ (b : List ℕ) (e : Entry) (p : ℕ) where
@@ -39,31 +39,31 @@ returns-in_err-place-clause-status c =
     let p = err_from_is_err_and c.from_residual.result c.from_residual.ensures.1 in
     let none : None ≡ c.new_place.result = grind arith in
     let why : c.in_err-place.field-0.0 ≡ refusal.Full = grind arith in
-    rw (p.1, p.2, why, no_place c.args.base.now c.args.e _ (none ∙ c.new_place.ensures)) refl
+    rw (p.1, p.2, why, no_place c.args.self.now.base.now c.args.self.now.entry.now _ (none ∙ c.new_place.ensures)) refl
 
 pub returns-then-any_damaged-clause-status : goal.returns-then-any_damaged-clause-status
 returns-then-any_damaged-clause-status c =
     let a = c.args in
     let some : Some c.in_ok-place.place ≡ c.new_place.result = grind arith in
     rw (
-      (some_place a.base.now a.e _ (some ∙ c.new_place.ensures)).1,
-      damaged-kept a.base.now a.e a.area.now a.at a.owners _ c.any_damaged.ensures c.new_links-links.ensures.result_value ∙ c.if-any_damaged.true,
+      (some_place a.self.now.base.now a.self.now.entry.now _ (some ∙ c.new_place.ensures)).1,
+      damaged-kept a.self.now.base.now a.self.now.entry.now a.area.now a.at a.owners _ c.any_damaged.ensures c.new_links-links.ensures.result_value ∙ c.if-any_damaged.true,
     ) refl
 
 pub linked_plan-requires : goal.linked_plan-requires
 linked_plan-requires c =
     let a = c.args in
-    record { points_in = points_most c.requires.points_in; owners_in = owners_most a.owners c.requires.points_in.lies c.requires.owners_in; links_in = links_in a.base.now a.e a.area.now a.at a.owners _ (sym c.any_damaged.ensures ∙ c.if-any_damaged.false) }
+    record { points_in = points_most c.args.self.now.points_in; owners_in = owners_most a.owners c.args.self.now.points_in.lies c.requires.owners_in; links_in = links_in a.self.now.base.now a.self.now.entry.now a.area.now a.at a.owners _ (sym c.any_damaged.ensures ∙ c.if-any_damaged.false) }
 
 pub returns : goal.returns
 returns c =
     let a = c.args in
     let kept = c.new_links-links.ensures.result_value in
     let some : Some c.in_ok-place.place ≡ c.new_place.result = grind arith in
-    let place = some_place a.base.now a.e _ (some ∙ c.new_place.ensures) in
+    let place = some_place a.self.now.base.now a.self.now.entry.now _ (some ∙ c.new_place.ensures) in
     record {
-      status = rw (place.1, damaged-kept a.base.now a.e a.area.now a.at a.owners _ c.any_damaged.ensures kept ∙ c.if-any_damaged.false) refl;
-      built = linked-same a.e a.owners kept
-          (place.0 ∙ ap (λ (l : Link). new_place a.base.now a.e l.prior) (filled_at (link_at a.base.now a.e a.owners a.spot a.on) _ a.e.count no_link kept a.on c.requires.on_lt_count))
+      status = rw (place.1, damaged-kept a.self.now.base.now a.self.now.entry.now a.area.now a.at a.owners _ c.any_damaged.ensures kept ∙ c.if-any_damaged.false) refl;
+      built = linked-same a.self.now.entry.now a.owners kept
+          (place.0 ∙ ap (λ (l : Link). new_place a.self.now.base.now a.self.now.entry.now l.prior) (filled_at (link_at a.self.now.base.now a.self.now.entry.now a.owners a.spot a.on) _ a.self.now.entry.now.count no_link kept a.on c.requires.on_lt_count))
           c.linked_plan.ensures;
     }

@@ -1,4 +1,4 @@
--- `point_plans::add` meets its contract: a refusal of the search for the masters, or what the rest comes to.
+-- `point_plans::Paths::add` meets its contract: a refusal of the search for the masters, or what the rest comes to.
 use Prim.Native.Nat.{ℕ, ◌<◌}
 use mathlib.Core.Path.{◌≡◌, refl, sym, ap, ◌∙◌}
 use mathlib.Core.List.{List}
@@ -16,7 +16,7 @@ use Rattle.schema.specs.declared.Part.{Part}
 use Rattle.schema.specs.declared.Schema.{Schema}
 use Rattle.schema.specs.Decode.{path_of, masters_on}
 use Rattle.records.specs.Areas.{area_key_place, area_key_on}
-use Rattle.records.specs.InBase.{masters_kept, MastersOf, PathsIn}
+use Rattle.records.specs.InBase.{masters_kept, MastersOf, MastersIn, PointsIn}
 use Rattle.masters.specs.declared.Found.TheVariants.{At}
 use Rattle.masters.specs.Find.{find}
 use Rattle.point_plans.specs.Rest.{other_masters}
@@ -25,7 +25,7 @@ use Rattle.point_plans.specs.WithinLaws.{area_keys_in}
 use Rattle.point_plans.specs.PathLaws.{others_same, filled_at}
 use Rattle.point_plans.specs.SideLaws.{Known, known_of, known-by-schema, owners_in}
 use Rattle.point_plans.specs.CallLaws.{add-refused, add-answer, add-plan}
-use Rattle.point_plans.proofs.add.Goals as goal
+use Rattle.point_plans.proofs.held.Paths.add.Goals as goal
 
 -- where the keys stand, and that they are the area's
 places : (e : Entry) (at : List ℕ) → take e.count at ≡ upto (area_key_place e) e.count → (k : ℕ) → k < e.count → get_or at k 0 ≡ area_key_place e k
@@ -54,11 +54,11 @@ others_under b e masters area at on s kept is t of =
 known : (b : List ℕ) (e : Entry) (masters : List Entry) (area at : List ℕ) (on : ℕ) (m : RecordNo) (owners : List Part)
     → take e.count at ≡ upto (area_key_place e) e.count
     → Done ≡ other_masters b (masters_kept masters) on Mrnf (key_at area e at) e.count
-    → PathsIn e masters (length b) → find b (masters_kept masters on) (area_key_on e area on) ≡ At m
+    → PointsIn e (length b) → ((k : ℕ) → k < e.count → MastersIn (masters_kept masters k) (path_of e k) (length b)) → find b (masters_kept masters on) (area_key_on e area on) ≡ At m
     → take e.count owners ≡ upto (owner_on b (masters_kept masters) (key_at area e at)) e.count
     → Known b (masters_kept masters) e (area_key_on e area) owners
-known b e masters area at on m owners kept is paths named found =
-    known_of b e masters on Mrnf (key_at area e at) (area_key_on e area) owners m paths (keys e area at kept) refl
+known b e masters area at on m owners kept is points masters_in named found =
+    known_of b e masters on Mrnf (key_at area e at) (area_key_on e area) owners m points masters_in (keys e area at kept) refl
     (sym (others b e masters area at on Done kept is)) named found
 
 pub all_owners-requires : goal.all_owners-requires
@@ -66,9 +66,8 @@ all_owners-requires c =
     let a = c.args in
     let at = c.area_places-at.result in
     let kept = c.area_places-at.ensures.result_value in record {
-      paths_in = c.requires.paths_in;
-      keys_in = area_keys_in at a.area.now c.requires.paths_in.points c.requires.area_len (places a.e at kept);
-      on_value = ap (find a.base.now (masters_kept a.masters a.named.on)) (keys a.e a.area.now at kept a.named.on c.requires.on_lt_count) ∙ c.requires.on_value;
+      keys_in = area_keys_in at a.area.now c.args.self.now.points_in c.requires.area_len (places a.self.now.entry.now at kept);
+      on_value = ap (find a.self.now.base.now (masters_kept a.self.now.masters.now a.named.on)) (keys a.self.now.entry.now a.area.now at kept a.named.on c.requires.on_lt_count) ∙ c.requires.on_value;
     }
 
 pub returns-in_err-owners-clause-status : goal.returns-in_err-owners-clause-status
@@ -78,8 +77,8 @@ returns-in_err-owners-clause-status c =
     let p = err_from_is_err_and c.from_residual.result c.from_residual.ensures.1 in
     λ t of.
     rw (p.1, p.2)
-    (add-refused a.base.now t a.e a.area.now a.spot a.named.on
-    (others_under a.base.now a.e a.masters a.area.now c.area_places-at.result a.named.on (status_by why) c.area_places-at.ensures.result_value c.in_err-owners.ensures.status t of)
+    (add-refused a.self.now.base.now t a.self.now.entry.now a.area.now a.spot a.named.on
+    (others_under a.self.now.base.now a.self.now.entry.now a.self.now.masters.now a.area.now c.area_places-at.result a.named.on (status_by why) c.area_places-at.ensures.result_value c.in_err-owners.ensures.status t of)
     (refusal-not-done why))
 
 pub returns-in_err-owners-clause-plan : goal.returns-in_err-owners-clause-plan
@@ -93,12 +92,12 @@ add_known-requires c =
     let kept = c.area_places-at.ensures.result_value in
     let o = c.in_ok-owners.ensures in
     let owners = c.in_ok-owners.owners in record {
-      points_in = c.requires.paths_in.points;
-      keys_in = area_keys_in at a.area.now c.requires.paths_in.points c.requires.area_len (places a.e at kept);
-      owners_in = owners_in a.base.now (masters_kept a.masters) a.e (area_key_on a.e a.area.now) owners
-          (known a.base.now a.e a.masters a.area.now at a.named.on a.named.master owners kept o.status c.requires.paths_in c.requires.on_value o.found);
-      spot_in = c.requires.spot_in;
-      on_lt_count = c.requires.on_lt_count;
+      keys_in = rw c.points.ensures.1 (area_keys_in at a.area.now c.args.self.now.points_in c.requires.area_len (places a.self.now.entry.now at kept));
+      owners_in = rw (c.points.ensures.0, c.points.ensures.1)
+          (owners_in a.self.now.base.now (masters_kept a.self.now.masters.now) a.self.now.entry.now (area_key_on a.self.now.entry.now a.area.now) owners
+          (known a.self.now.base.now a.self.now.entry.now a.self.now.masters.now a.area.now at a.named.on a.named.master owners kept o.status c.args.self.now.points_in c.args.self.now.masters_in c.requires.on_value o.found));
+      spot_in = rw c.points.ensures.1 c.requires.spot_in;
+      on_lt_count = rw c.points.ensures.1 c.requires.on_lt_count;
     }
 
 pub returns : goal.returns
@@ -108,11 +107,13 @@ returns c =
     let kept = c.area_places-at.ensures.result_value in
     let o = c.in_ok-owners.ensures in
     let owners = c.in_ok-owners.owners in
-    let held = known a.base.now a.e a.masters a.area.now at a.named.on a.named.master owners kept o.status c.requires.paths_in c.requires.on_value o.found in record {
+    let status = rw (c.points.ensures.0, c.points.ensures.1) at c.add_known.ensures.status in
+    let built = rw (c.points.ensures.0, c.points.ensures.1) at c.add_known.ensures.built in
+    let held = known a.self.now.base.now a.self.now.entry.now a.self.now.masters.now a.area.now at a.named.on a.named.master owners kept o.status c.args.self.now.points_in c.args.self.now.masters_in c.requires.on_value o.found in record {
       status = λ t of.
-          add-answer a.base.now t a.e a.area.now a.spot a.named.on owners (known-by-schema a.base.now t a.e a.masters (area_key_on a.e a.area.now) owners of held)
-          at (places a.e at kept) (sym (others_under a.base.now a.e a.masters a.area.now at a.named.on Done kept o.status t of)) c.add_known.ensures.status;
+          add-answer a.self.now.base.now t a.self.now.entry.now a.area.now a.spot a.named.on owners (known-by-schema a.self.now.base.now t a.self.now.entry.now a.self.now.masters.now (area_key_on a.self.now.entry.now a.area.now) owners of held)
+          at (places a.self.now.entry.now at kept) (sym (others_under a.self.now.base.now a.self.now.entry.now a.self.now.masters.now a.area.now at a.named.on Done kept o.status t of)) status;
       plan = λ t of.
-          add-plan a.base.now t a.e a.area.now a.spot a.named.on owners (known-by-schema a.base.now t a.e a.masters (area_key_on a.e a.area.now) owners of held)
-          at c.add_known.result c.requires.on_lt_count c.add_known.ensures.status c.add_known.ensures.built;
+          add-plan a.self.now.base.now t a.self.now.entry.now a.area.now a.spot a.named.on owners (known-by-schema a.self.now.base.now t a.self.now.entry.now a.self.now.masters.now (area_key_on a.self.now.entry.now a.area.now) owners of held)
+          at c.add_known.result c.requires.on_lt_count status built;
     }

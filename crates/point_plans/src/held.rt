@@ -1,0 +1,115 @@
+// The points of a set as a data base holds them: on one path, on every path, and with the masters of each. That the records lie in the data base,
+// and the paths' fields in the records, are facts of the types.
+ghost use Rattle.std.specs.Prelude.{ℕ, ◌≡◌, ◌+◌, ◌≤◌, ◌<◌, length};
+ghost use Rattle.schema.specs.Decode.{path_of};
+ghost use Rattle.schema.specs.Place.{InSet, LiesIn};
+ghost use Rattle.records.specs.InBase.{masters_kept, MastersIn, PointsIn, PathIn};
+
+use masters::held::Masters;
+use records::held::{Record, Set};
+use schema::layout::path_of;
+use schema::{Entry, Path};
+use terms::RecordNo;
+
+// The points of a set on one path.
+#[derive(Clone, Copy)]
+pub struct OnPath<'a> {
+    pub base: &'a [u8],
+    pub entry: &'a Entry,
+    pub path: Path,
+    ghost lies_in: { LiesIn entry.now (length base.now) },
+    ghost path_in: { PathIn entry.now path },
+}
+
+// The points of a set on all its paths.
+#[derive(Clone, Copy)]
+pub struct Points<'a> {
+    pub base: &'a [u8],
+    pub entry: &'a Entry,
+    ghost points_in: { PointsIn entry.now (length base.now) },
+}
+
+// The paths of a set of points: the points, and the masters of each path.
+#[derive(Clone, Copy)]
+pub struct Paths<'a> {
+    pub base: &'a [u8],
+    pub entry: &'a Entry,
+    pub masters: &'a [Entry; 4],
+    ghost points_in: { PointsIn entry.now (length base.now) },
+    ghost masters_in: { (k : ℕ) → k < entry.now.count → MastersIn (masters_kept masters.now k) (path_of entry.now k) (length base.now) },
+}
+
+impl<'a> OnPath<'a> {
+    // The points of an entry, whose records lie in the data base, on a path whose fields lie in them.
+    pub fn of(base: &'a [u8], entry: &'a Entry, path: Path) -> OnPath<'a>
+        requires lies_in { LiesIn entry.now (length base.now) }
+        requires path_in { PathIn entry.now path }
+        ensures { (result.base.now ≡ base.now) × (result.entry.now ≡ entry.now) × (result.path ≡ path) }
+    {
+        OnPath { base, entry, path }
+    }
+
+    // The record of a number.
+    pub fn record(&self, r: RecordNo) -> Record<'a>
+        requires { InSet self.now.entry.now r.0 }
+        ensures { (result.base.now ≡ self.now.base.now) × (result.entry.now ≡ self.now.entry.now) × (result.number.0 ≡ r.0) }
+    {
+        Set::of(self.base, self.entry).record(r)
+    }
+}
+
+impl<'a> Points<'a> {
+    // The points of an entry.
+    pub fn of(base: &'a [u8], entry: &'a Entry) -> Points<'a>
+        requires { PointsIn entry.now (length base.now) }
+        ensures { (result.base.now ≡ base.now) × (result.entry.now ≡ entry.now) }
+    {
+        Points { base, entry }
+    }
+
+    // Those on path k.
+    pub fn on(&self, k: usize) -> OnPath<'a>
+        requires { k < self.now.entry.now.count }
+        ensures { (result.base.now ≡ self.now.base.now) × (result.entry.now ≡ self.now.entry.now) × (result.path ≡ path_of self.now.entry.now k) }
+    {
+        OnPath::of(self.base, self.entry, path_of(*self.entry, k))
+    }
+
+    // The record of a number.
+    pub fn record(&self, r: RecordNo) -> Record<'a>
+        requires { InSet self.now.entry.now r.0 }
+        ensures { (result.base.now ≡ self.now.base.now) × (result.entry.now ≡ self.now.entry.now) × (result.number.0 ≡ r.0) }
+    {
+        Set::of(self.base, self.entry).record(r)
+    }
+}
+
+impl<'a> Paths<'a> {
+    // The points of an entry, and the masters of each of their paths.
+    pub fn of(base: &'a [u8], entry: &'a Entry, masters: &'a [Entry; 4]) -> Paths<'a>
+        requires points_in { PointsIn entry.now (length base.now) }
+        requires masters_in { (k : ℕ) → k < entry.now.count → MastersIn (masters_kept masters.now k) (path_of entry.now k) (length base.now) }
+        ensures { (result.base.now ≡ base.now) × (result.entry.now ≡ entry.now) × (result.masters.now ≡ masters.now) }
+    {
+        Paths {
+            base,
+            entry,
+            masters,
+        }
+    }
+
+    // The points by themselves.
+    pub fn points(&self) -> Points<'a>
+        ensures { (result.base.now ≡ self.now.base.now) × (result.entry.now ≡ self.now.entry.now) }
+    {
+        Points::of(self.base, self.entry)
+    }
+
+    // The masters of path k.
+    pub fn masters_on(&self, k: usize) -> Masters<'a>
+        requires { k < self.now.entry.now.count }
+        ensures { (result.base.now ≡ self.now.base.now) × (result.entry.now ≡ masters_kept self.now.masters.now k) }
+    {
+        Masters::of(self.base, &self.masters[k])
+    }
+}
