@@ -7,8 +7,9 @@ ghost use Rattle.octets.specs.Below.{lowest_from};
 ghost use Rattle.schema.specs.Numbers.{number_below, record_up_to};
 ghost use Rattle.schema.specs.Place.{LiesIn};
 ghost use Rattle.scan.specs.Scan.{lowest_free, next_live};
-ghost use Rattle.scan.specs.Wanted.{wanted, wanted_in};
+ghost use Rattle.scan.specs.Wanted.{wanted_above, wanted_in};
 
+use records::held::Set;
 use schema::Entry;
 use schema::layout::{next_stretch, records_of, stretch_from};
 use terms::RecordNo;
@@ -33,18 +34,17 @@ fn in_block(records: &[u8], size: usize, n: u32, live: bool) -> Option<u32>
 
 // The lowest-numbered live record, or free one, above `from`, if there is one. The first block is entered at its first record above `from`,
 // the others at their beginning.
-fn scan(base: &[u8], e: Entry, from: u32, live: bool) -> Option<RecordNo>
-    requires lies_in { LiesIn e (length base.now) }
-    requires le_size { 1 ≤ e.size }
-    requires from_lt_records { from < e.records }
-    ensures { result ≡ record_up_to e.records (lowest_from (wanted live base.now e) (e.records - from) (from + 1)) }
+fn scan(set: &Set, from: u32, live: bool) -> Option<RecordNo>
+    requires { from < set.now.entry.now.records }
+    ensures { result ≡ record_up_to set.now.entry.now.records (wanted_above live set.now.base.now set.now.entry.now from) }
 {
+    let e = *set.entry;
     let size = e.size as usize;
     let mut passed = from;
     let mut s = stretch_from(e, RecordNo(from + 1));
     while passed < e.records {
         let n = s.count;
-        if let Some(i) = in_block(records_of(base, e, s), size, n, live) {
+        if let Some(i) = in_block(records_of(set.base, e, s), size, n, live) {
             return Some(RecordNo(passed + 1 + i));
         }
         passed += n;
@@ -54,24 +54,40 @@ fn scan(base: &[u8], e: Entry, from: u32, live: bool) -> Option<RecordNo>
 }
 
 // "The lowest-numbered free record", if there is one.
+pub fn lowest_free_in(set: &Set) -> Option<RecordNo>
+    requires { 1 ≤ set.now.entry.now.records }
+    ensures { result ≡ record_up_to set.now.entry.now.records (lowest_free set.now.base.now set.now.entry.now) }
+{
+    scan(set, 0, false)
+}
+
+// "The next live one above the reference, 0 to begin", if there is one.
+pub fn next_live_in(set: &Set, from: u32) -> Option<RecordNo>
+    requires { from ≤ set.now.entry.now.records }
+    ensures { result ≡ record_up_to set.now.entry.now.records (next_live set.now.base.now set.now.entry.now from) }
+{
+    if from == set.entry.records {
+        return None;
+    }
+    scan(set, from, true)
+}
+
+// "The lowest-numbered free record", if there is one.
 pub fn lowest_free(base: &[u8], e: Entry) -> Option<RecordNo>
     requires lies_in { LiesIn e (length base.now) }
-    requires le_size { 1 ≤ e.size }
+    requires le_size { 4 ≤ e.size }
     requires le_records { 1 ≤ e.records }
     ensures { result ≡ record_up_to e.records (lowest_free base.now e) }
 {
-    scan(base, e, 0, false)
+    lowest_free_in(&Set::of(base, &e))
 }
 
 // "The next live one above the reference, 0 to begin", if there is one.
 pub fn next_live(base: &[u8], e: Entry, from: u32) -> Option<RecordNo>
     requires lies_in { LiesIn e (length base.now) }
-    requires le_size { 1 ≤ e.size }
+    requires le_size { 4 ≤ e.size }
     requires from_le_records { from ≤ e.records }
     ensures { result ≡ record_up_to e.records (next_live base.now e from) }
 {
-    if from == e.records {
-        return None;
-    }
-    scan(base, e, from, true)
+    next_live_in(&Set::of(base, &e), from)
 }
