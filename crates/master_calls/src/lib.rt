@@ -15,7 +15,8 @@ ghost use Rattle.master_calls.specs.Masters.{placed_at, formed_in, AnswersOn, An
 
 use ends::{give, settle};
 use master_plans::{add_master, del_master};
-use masters::{Found, walk};
+use masters::Found;
+use masters::held::Masters;
 use plans::body_plan;
 use schema::layout::entry_of;
 use schema::{Entry, Schema};
@@ -72,7 +73,8 @@ pub fn readm(
     requires area_len { length area.old ≡ area_length e }
     ensures { AnswersOn Readm e reference.0 key.now area.old base.now (status_of result) (reference_of reference.0 result) area.new base.now }
 {
-    let m = walk::master(base, e, Key::of(key))?;
+    let masters = Masters::of(base, &e);
+    let m = masters.named(Key::of(key))?;
     Ok(give(base, e, Some(m), area))
 }
 
@@ -89,7 +91,8 @@ pub fn writm(
     requires area_len { length area.now ≡ area_length e }
     ensures { AnswersOn Writm e reference.0 key.now area.now base.old (status_of result) (reference_of reference.0 result) area.now base.new }
 {
-    let m = walk::master(base, e, Key::of(key))?;
+    let masters = Masters::of(base, &e);
+    let m = masters.named(Key::of(key))?;
     settle(base, e, area, body_plan(m), reference)
 }
 
@@ -107,12 +110,13 @@ pub fn addm(
     ensures { AnswersOn AddM e reference.0 key.now area.now base.old (status_of result) (reference_of reference.0 result) area.now base.new }
 {
     let k = Key::of(key);
-    let s = walk::find(base, e, k);
+    let masters = Masters::of(base, &e);
+    let s = masters.find(k);
     match s.found {
         Found::Damaged => Err(Refusal::Damg),
         Found::At(m) => Err(Refusal::Dupm),
         Found::Missing => {
-            let plan = add_master(base, e, k.home(e.records), s.last)?;
+            let plan = add_master(&masters, k.home(e.records), s.last)?;
             settle(base, e, area, plan, reference)
         }
     }
@@ -135,8 +139,9 @@ pub fn delm(
     ensures { AnswersIn t n.0 DelM e reference.0 key.now area.now base.old (status_of result) (reference_of reference.0 result) area.now base.new }
 {
     let k = Key::of(key);
-    let m = walk::master(base, e, k)?;
-    let plan = del_master(base, t, n, e, k.home(e.records), m)?;
+    let masters = Masters::of(base, &e);
+    let m = masters.named(k)?;
+    let plan = del_master(t, n, &masters, k.home(e.records), m)?;
     settle(base, e, area, plan, reference)
 }
 

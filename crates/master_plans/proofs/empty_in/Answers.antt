@@ -13,10 +13,10 @@ pub returns-then-not-empty_on : goal.returns-then-not-empty_on
 returns-then-not-empty_on c =
     let a = c.args in
     sym
-    (all_below-fails (λ k. empty_on a.base.now a.e a.n.0 a.r.0 (path_of a.x k)) a.x.count c.loop-j.j (omega (arith, c.loop-j-test.true, c.from-j-end.ensures))
+    (all_below-fails (λ k. empty_on a.master.now.base.now a.master.now.entry.now a.n.0 a.master.now.number.0 (path_of a.x k)) a.x.count c.loop-j.j (omega (arith, c.loop-j-test.true, c.from-j-end.ensures))
     (rw c.path_of.ensures at (sym c.if-not-empty_on.ensures)))
 
 pub loop-j-preserved : goal.loop-j-preserved
 loop-j-preserved c =
     let a = c.args in
-    all_below-turn (λ k. empty_on a.base.now a.e a.n.0 a.r.0 (path_of a.x k)) c.loop-j.j c.loop-j.invariant (rw c.path_of.ensures at (sym c.if-not-empty_on.ensures))
+    all_below-turn (λ k. empty_on a.master.now.base.now a.master.now.entry.now a.n.0 a.master.now.number.0 (path_of a.x k)) c.loop-j.j c.loop-j.invariant (rw c.path_of.ensures at (sym c.if-not-empty_on.ensures))

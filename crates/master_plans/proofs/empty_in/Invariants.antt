@@ -6,4 +6,4 @@ use Rattle.master_plans.proofs.empty_in.Given as goal
 
 -- every path passed is one with no point
 abbrev pub invariant-loop-j : goal.invariant-loop-j
-invariant-loop-j l = all_below (λ k. empty_on l.base l.e l.n.0 l.r.0 (path_of l.x k)) l.j ≡ true
+invariant-loop-j l = all_below (λ k. empty_on l.master.base.now l.master.entry.now l.n.0 l.master.number.0 (path_of l.x k)) l.j ≡ true

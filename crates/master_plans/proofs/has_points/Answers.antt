@@ -15,19 +15,19 @@ pub returns-then-not-empty_in : goal.returns-then-not-empty_in
 returns-then-not-empty_in c =
     let a = c.args in
     let e =
-    all_below-fails (λ k. empty_in a.base.now a.e a.n.0 a.r.0 (entry_of a.t k)) (set_count a.t) c.loop-i.i (omega (arith, c.loop-i-test.true, c.sets-i-end.ensures))
+    all_below-fails (λ k. empty_in a.master.now.base.now a.master.now.entry.now a.n.0 a.master.now.number.0 (entry_of a.t k)) (set_count a.t) c.loop-i.i (omega (arith, c.loop-i-test.true, c.sets-i-end.ensures))
     (rw c.entry_of.ensures at (sym c.if-not-empty_in.ensures)) in
-    ap not (sym e) ∙ points-are a.t a.base.now a.n.0 a.r.0 a.e c.requires.e_value
+    ap not (sym e) ∙ points-are a.t a.master.now.base.now a.n.0 a.master.now.number.0 a.master.now.entry.now c.requires.entry_value
 
 pub loop-i-preserved : goal.loop-i-preserved
 loop-i-preserved c =
     let a = c.args in
-    all_below-turn (λ k. empty_in a.base.now a.e a.n.0 a.r.0 (entry_of a.t k)) c.loop-i.i c.loop-i.invariant (rw c.entry_of.ensures at (sym c.if-not-empty_in.ensures))
+    all_below-turn (λ k. empty_in a.master.now.base.now a.master.now.entry.now a.n.0 a.master.now.number.0 (entry_of a.t k)) c.loop-i.i c.loop-i.invariant (rw c.entry_of.ensures at (sym c.if-not-empty_in.ensures))
 
 pub returns : goal.returns
 returns c =
     let a = c.args in
     let all =
-    joined-all (λ k. empty_in a.base.now a.e a.n.0 a.r.0 (entry_of a.t k)) (set_count a.t) c.loop-i.i (omega (arith, c.loop-i.auto.i-end, c.sets-i-end.ensures))
+    joined-all (λ k. empty_in a.master.now.base.now a.master.now.entry.now a.n.0 a.master.now.number.0 (entry_of a.t k)) (set_count a.t) c.loop-i.i (omega (arith, c.loop-i.auto.i-end, c.sets-i-end.ensures))
     (omega (arith, c.loop-i-test.false, c.sets-i-end.ensures)) (sym c.loop-i.invariant) in
-    ap not all ∙ points-are a.t a.base.now a.n.0 a.r.0 a.e c.requires.e_value
+    ap not all ∙ points-are a.t a.master.now.base.now a.n.0 a.master.now.number.0 a.master.now.entry.now c.requires.entry_value
