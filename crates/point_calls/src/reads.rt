@@ -14,9 +14,9 @@ ghost use Rattle.point_calls.specs.OnPath.{Seen, read_by, pointer_on, AnswersOnP
 use super::Located;
 use super::sight::seek;
 use ends::give;
-use point_plans::damage::{bad_neighbour, uneven_ends};
-use records::fields::{first_on, last_on, next_on, prior_on};
-use schema::layout::record_of;
+use masters::held::Masters;
+use point_plans::damage::uneven_ends;
+use point_plans::held::OnPath;
 use terms::{Key, RecordNo, Reference, Refusal};
 
 // READD: the referenced record.
@@ -45,15 +45,17 @@ fn pointer_on(base: &[u8], l: Located, m: RecordNo, r: u32, linked: bool, back: 
     ensures { result ≡ pointer_on back base.now l.entry l.path l.masters m.0 r linked }
 {
     if linked {
+        let master = Masters::of(base, &l.masters).at(m).record();
         if back {
-            return last_on(base, l.masters, m, l.path);
+            return master.last_on(l.path);
         }
-        return first_on(base, l.masters, m, l.path);
+        return master.first_on(l.path);
     }
+    let point = OnPath::of(base, &l.entry, l.path).record(RecordNo(r));
     if back {
-        return prior_on(base, l.entry, RecordNo(r), l.path);
+        return point.prior_on(l.path);
     }
-    next_on(base, l.entry, RecordNo(r), l.path)
+    point.next_on(l.path)
 }
 
 // The final 16 of a read that uses the pointer n.
@@ -63,9 +65,9 @@ fn read_damaged(base: &[u8], l: Located, m: RecordNo, key: Key, linked: bool, n:
     requires len_value { key.len ≡ l.masters.key }
     ensures { result ≡ read_damaged base.now l.entry l.path l.masters m.0 (key_of key) linked n }
 {
-    let p = l.path;
-    let uneven = uneven_ends(record_of(base, l.masters, m), p.link as usize);
-    let bad = bad_neighbour(base, l.entry, p, key, n);
+    let master = Masters::of(base, &l.masters).at(m).record().bytes();
+    let uneven = uneven_ends(master, l.path.link as usize);
+    let bad = OnPath::of(base, &l.entry, l.path).bad_neighbour(key, n);
     (linked & uneven) | bad
 }
 

@@ -6,8 +6,8 @@ ghost use Rattle.records.specs.InBase.{Reached};
 ghost use Rattle.point_calls.specs.OnPath.{sighted_of};
 
 use super::Located;
-use masters::walk;
-use point_plans::damage::is_point;
+use masters::held::Masters;
+use point_plans::held::OnPath;
 use terms::{Key, RecordNo, Refusal};
 
 // "find the named master (16, then 12)", then 11 where the call looks at the referenced record.
@@ -17,11 +17,11 @@ pub fn seek(base: &[u8], l: Located, r: u32, key: Key, looks: bool) -> Result<Re
     requires in_set { looks ≡ true → InSet l.entry r }
     ensures { result ≡ sighted_of base.now l.entry l.path l.masters r (key_of key) looks }
 {
-    let m = walk::master(base, l.masters, key)?;
+    let m = Masters::of(base, &l.masters).named(key)?;
     if !looks {
         return Ok(m);
     }
-    if !is_point(base, l.entry, l.path, key, RecordNo(r)) {
+    if !OnPath::of(base, &l.entry, l.path).is_point(key, RecordNo(r)) {
         return Err(Refusal::Ivrp);
     }
     Ok(m)

@@ -14,8 +14,8 @@ use super::sight::seek;
 use ends::settle;
 use plans::body_plan;
 use point_plans::NamedPath;
+use point_plans::held::{OnPath, Paths};
 use points::Spot;
-use records::fields::prior_on;
 use schema::{Entry, Path};
 use terms::{Key, RecordNo, Reference, Refusal};
 
@@ -70,7 +70,8 @@ pub fn add_at(
 {
     let master = seek(base, l, reference.0, Key::of(key), is_beside(spot))?;
     let named = NamedPath { on: l.on, master };
-    let plan = point_plans::add(base, l.entry, all, area, spot, named)?;
+    let paths = Paths::of(base, &l.entry, &all);
+    let plan = paths.add(area, spot, named)?;
     settle(base, l.entry, area, plan, Reference::number(plan.target))
 }
 
@@ -102,8 +103,10 @@ pub fn delvd(
 {
     let master = seek(base, l, reference.0, Key::of(key), true)?;
     let r = RecordNo(reference.0);
-    let after = or_link(l.path, prior_on(base, l.entry, r, l.path));
+    let point = OnPath::of(base, &l.entry, l.path).record(r);
+    let after = or_link(l.path, point.prior_on(l.path));
     let named = NamedPath { on: l.on, master };
-    let plan = point_plans::delete(base, l.entry, all, r, named)?;
+    let paths = Paths::of(base, &l.entry, &all);
+    let plan = paths.delete(r, named)?;
     settle(base, l.entry, area, plan, after)
 }

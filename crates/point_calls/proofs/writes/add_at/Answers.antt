@@ -17,34 +17,39 @@ returns-in_err-master c =
     rw (p.1, p.2)
     (by-seek-among _ (add-call c.args.spot) _ _ _ _ _ _ _ _ c.seek.ensures c.of.ensures.0 (c.is_beside.ensures ∙ c.requires.spotted.look) c.in_err-master.was _ _)
 
-pub add-requires-clause-paths_in : goal.add-requires-clause-paths_in
-add-requires-clause-paths_in c = paths_in c.requires.path_among
+pub of-paths-requires : goal.of-paths-requires
+of-paths-requires c = let h = paths_in c.requires.path_among in record { points_in = h.points; masters_in = h.masters }
 
 pub add-requires-clause-on_lt_count : goal.add-requires-clause-on_lt_count
-add-requires-clause-on_lt_count c = on-among c.requires.path_among.under
+add-requires-clause-on_lt_count c = rw c.of-paths.ensures.1 (on-among c.requires.path_among.under)
 
 pub add-requires-clause-on_value : goal.add-requires-clause-on_value
 add-requires-clause-on_value c =
-    add-finds _ _ _ _ _ _ _ _ _ _ _ c.requires.path_among (seen _ _ _ _ _ _ _ c.seek.ensures c.of.ensures.0 c.in_ok-master.was) c.requires.on_value
+    rw (c.of-paths.ensures.0, c.of-paths.ensures.1, c.of-paths.ensures.2)
+    (add-finds _ _ _ _ _ _ _ _ _ _ _ c.requires.path_among (seen _ _ _ _ _ _ _ c.seek.ensures c.of.ensures.0 c.in_ok-master.was) c.requires.on_value)
 
 pub returns-in_err-plan : goal.returns-in_err-plan
 returns-in_err-plan c =
+    let status = rw (c.of-paths.ensures.0, c.of-paths.ensures.1, c.of-paths.ensures.2) at c.add.ensures.status in
     let p = err_from_is_err_and c.from_residual-in_err-plan.result c.from_residual-in_err-plan.ensures.1 in
     rw (p.1, p.2)
     (add-refused _ _ _ _ _ _ _ _ _ _ _ _
     (seen_as c.is_beside.ensures (seen _ _ _ _ _ _ _ c.seek.ensures c.of.ensures.0 c.in_ok-master.was))
-    c.requires.spotted (λ t of. rw c.in_err-plan.was at (c.add.ensures.status t of)))
+    c.requires.spotted (λ t of. rw c.in_err-plan.was at (status t of)))
 
 pub settle-requires : goal.settle-requires
 settle-requires c =
+    let plan = rw (c.of-paths.ensures.0, c.of-paths.ensures.1, c.of-paths.ensures.2) at c.add.ensures.plan in
     let points = (reached-under c.requires.path_among.under).points in
-    let w = rw c.in_ok-plan.was at (c.add.ensures.plan c.requires.path_among.schema c.requires.path_among.kept) in
+    let w = rw c.in_ok-plan.was at (plan c.requires.path_among.schema c.requires.path_among.kept) in
     record { lies_in = points.lies; fields = points.fields; plan_ok = w.1; area_ok = rw w.3 c.requires.area_len }
 
 pub returns : goal.returns
 returns c =
+    let status = rw (c.of-paths.ensures.0, c.of-paths.ensures.1, c.of-paths.ensures.2) at c.add.ensures.status in
+    let plan = rw (c.of-paths.ensures.0, c.of-paths.ensures.1, c.of-paths.ensures.2) at c.add.ensures.plan in
     add-ends _ _ _ _ _ _ _ _ _ _ _
     (seen_as c.is_beside.ensures (seen _ _ _ _ _ _ _ c.seek.ensures c.of.ensures.0 c.in_ok-master.was))
     c.requires.spotted _ _ _
-    (λ t of. let w = rw c.in_ok-plan.was at (c.add.ensures.plan t of) in (rw c.in_ok-plan.was at (c.add.ensures.status t of), λ d. (w.0, c.number.ensures ∙ w.2)))
+    (λ t of. let w = rw c.in_ok-plan.was at (plan t of) in (rw c.in_ok-plan.was at (status t of), λ d. (w.0, c.number.ensures ∙ w.2)))
     (c.settle.ensures c.args.reference.0)
