@@ -1,16 +1,15 @@
 -- The laws of a clean data base: how the loops of its tests end, and what is asked of one record.
 use Rattle.std.specs.List.{list_all, range_with_len}
 use Rattle.std.specs.Prelude.{ℕ, zero, suc, ◌+◌, ◌≤◌, ◌≡◌, refl, Bool, true, false, ◌&&◌, List}
-use Rattle.std.proofs.Common.{sym, ◌∙◌, arith, eq-eqb, ne_eqb}
+use Rattle.std.proofs.Common.{sym, ◌∙◌, arith}
 use Rattle.std.proofs.Math.Path.{ap}
-use Rattle.octets.specs.Octets.{byte_at, run, all_zero}
+use Rattle.octets.specs.Octets.{run, all_zero}
 use Rattle.octets.specs.SpliceLaws.{run_run}
 use Rattle.octets.specs.Below.{all_below}
 use Rattle.octets.specs.BelowLaws.{all_below-turn, all_below-fails}
 use Rattle.schema.specs.declared.Entry.{Entry}
 use Rattle.schema.specs.Place.{place_of, record_of}
-use Rattle.records.specs.Records.{state_of}
-use Rattle.records.proofs.RecordLaws.{state-part}
+use Rattle.records.specs.Records.{is_live}
 use Rattle.sound.specs.Sound.{record_clean}
 
 -- ---- a test of every number from a on, n of them, is a test of those below a + n where the ones below a pass
@@ -29,14 +28,11 @@ all_upto f n = all-range f n 0 n (omega arith) refl
 
 -- ---- one record, from the part that was lent
 
-module _ (b : List ℕ) (e : Entry) (r : ℕ) {part : List ℕ} (lent : part ≡ record_of b e r) (four : 4 ≤ e.size) where
-  state_lent : byte_at part 0 ≡ state_of b e r
-  state_lent = rw lent (state-part b e r (omega arith))
-
-  pub clean-live : {c : Bool} → byte_at part 0 ≡ 1 → c ≡ all_zero (run part 1 3) → c ≡ record_clean b e r
+module _ (b : List ℕ) (e : Entry) (r : ℕ) {part : List ℕ} (lent : part ≡ record_of b e r) where
+  pub clean_live : 4 ≤ e.size → {l : Bool} → l ≡ is_live b e r → l ≡ true → {c : Bool} → c ≡ all_zero (run part 1 3) → c ≡ record_clean b e r
   unfolding record_clean
-  clean-live h q = rw (eq-eqb _ _ (sym state_lent ∙ h)) (q ∙ (rw (lent, run_run b (place_of e r) e.size 1 3 four) refl))
+  clean_live four el h q = rw (← el, h) (q ∙ (rw (lent, run_run b (place_of e r) e.size 1 3 four) refl))
 
-  pub clean_free : {c : Bool} → (byte_at part 0 ≡ 1 → ⊥) → c ≡ all_zero part → c ≡ record_clean b e r
+  pub clean_free : {l : Bool} → l ≡ is_live b e r → l ≡ false → {c : Bool} → c ≡ all_zero part → c ≡ record_clean b e r
   unfolding record_clean
-  clean_free h q = rw (ne_eqb _ _ (λ s. h (state_lent ∙ s))) (q ∙ ap all_zero lent)
+  clean_free el h q = rw (← el, h) (q ∙ ap all_zero lent)

@@ -5,12 +5,13 @@
 ghost use Rattle.std.specs.Prelude.{◌≡◌, ◌*◌, ◌≤◌, ◌<◌, length};
 ghost use Rattle.octets.specs.Below.{all_below};
 ghost use Rattle.blocks.specs.Blocks.{is_sealed};
-ghost use Rattle.schema.specs.Place.{InSet, LiesIn, blocks_held};
+ghost use Rattle.schema.specs.Place.{blocks_held};
 ghost use Rattle.sound.specs.Sound.{each_record, checks_true, record_clean, leftover_clean, set_clean};
 
 use blocks::Check;
-use schema::layout::{blocks_held, leftover_of, record_of};
-use schema::{Entry, Schema};
+use records::held::{Record, Set};
+use schema::Schema;
+use schema::layout::{blocks_held, leftover_of};
 use terms::{BlockNo, RecordNo};
 
 // Are the checks of the first n blocks true?
@@ -30,48 +31,40 @@ pub fn checks_true(base: &[u8], t: Schema) -> bool
 }
 
 // A live record has three zeros behind its state; any other record is all zero, so that its state is 0.
-fn record_clean(base: &[u8], e: Entry, r: RecordNo) -> bool
-    requires in_set { InSet e r.0 }
-    requires lies_in { LiesIn e (length base.now) }
-    requires le_size { 4 ≤ e.size }
-    ensures { result ≡ record_clean base.now e r.0 }
+#[tactic(auto, using(crate::specs::CleanLaws::clean_live, crate::specs::CleanLaws::clean_free))]
+fn record_clean(record: &Record) -> bool
+    ensures { result ≡ record_clean record.now.base.now record.now.entry.now record.now.number.0 }
 {
-    let part = record_of(base, e, r);
-    if part[0] == 1 {
+    let part = record.bytes();
+    if record.is_live() {
         return octets::all(&part[1..4], 0);
     }
     octets::all(part, 0)
 }
 
-fn records_clean(base: &[u8], e: Entry) -> bool
-    requires lies_in { LiesIn e (length base.now) }
-    requires le_size { 4 ≤ e.size }
-    ensures { result ≡ each_record e (record_clean base.now e) }
+fn records_clean(set: &Set) -> bool
+    ensures { result ≡ each_record set.now.entry.now (record_clean set.now.base.now set.now.entry.now) }
 {
-    (0..e.records).all(|k| record_clean(base, e, RecordNo(k + 1)))
+    (0..set.entry.records).all(|k| record_clean(&set.record(RecordNo(k + 1))))
 }
 
 // "Room after records is zero.": up to the block's check.
-fn leftover_clean(base: &[u8], e: Entry, k: u32) -> bool
-    requires lies_in { LiesIn e (length base.now) }
-    requires k_bound { k < blocks_held e }
-    ensures { result ≡ leftover_clean base.now e k }
+fn leftover_clean(set: &Set, k: u32) -> bool
+    requires { k < blocks_held set.now.entry.now }
+    ensures { result ≡ leftover_clean set.now.base.now set.now.entry.now k }
 {
-    octets::all(leftover_of(base, e, k), 0)
+    octets::all(leftover_of(set.base, *set.entry, k), 0)
 }
 
-fn leftovers_clean(base: &[u8], e: Entry) -> bool
-    requires { LiesIn e (length base.now) }
-    ensures { result ≡ all_below (leftover_clean base.now e) (blocks_held e) }
+fn leftovers_clean(set: &Set) -> bool
+    ensures { result ≡ all_below (leftover_clean set.now.base.now set.now.entry.now) (blocks_held set.now.entry.now) }
 {
-    (0..blocks_held(e)).all(|k| leftover_clean(base, e, k))
+    (0..blocks_held(*set.entry)).all(|k| leftover_clean(set, k))
 }
 
 // "states 0 or 1; free records, fillers and leftovers zero"
-pub fn set_clean(base: &[u8], e: Entry) -> bool
-    requires lies_in { LiesIn e (length base.now) }
-    requires le_size { 4 ≤ e.size }
-    ensures { result ≡ set_clean base.now e }
+pub fn set_clean(set: &Set) -> bool
+    ensures { result ≡ set_clean set.now.base.now set.now.entry.now }
 {
-    records_clean(base, e) && leftovers_clean(base, e)
+    records_clean(set) && leftovers_clean(set)
 }

@@ -10,6 +10,7 @@ ghost use Rattle.records.specs.InBase.{Laid, IsSetOf, VariableIn};
 ghost use Rattle.signon.specs.Judged.{set_placed};
 
 use clean::{checks_true, set_clean};
+use records::held::Set;
 use schema::layout::{entry_of, path_of, sets};
 use schema::{Entry, Schema};
 use terms::EntryNo;
@@ -32,7 +33,7 @@ fn set_in_place(base: &[u8], t: Schema, e: Entry) -> bool
     requires { IsSetOf t e (length base.now) }
     ensures { result ≡ set_in_place t base.now e }
 {
-    if !set_clean(base, e) {
+    if !set_clean(&Set::of(base, &e)) {
         return false;
     }
     if e.kind == 1 {

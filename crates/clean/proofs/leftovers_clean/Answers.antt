@@ -8,6 +8,6 @@ use Rattle.clean.proofs.leftovers_clean.Goals as goal
 
 pub returns : goal.returns
 returns c =
-    let f = leftover_clean c.args.base.now c.args.e in
+    let f = leftover_clean c.args.set.now.base.now c.args.set.now.entry.now in
     let n = c.blocks_held.result in
     all_from_yields_List f _ _ _ c.all.ensures.ran (YieldsList-from_range 0 n n refl (omega arith)) (λ x b q k. search (rules, tests)) ∙ all_upto f n ∙ (rw c.blocks_held.ensures.0 refl)

@@ -9,6 +9,6 @@ use Rattle.clean.proofs.records_clean.Goals as goal
 
 pub returns : goal.returns
 returns c =
-    let f : ℕ → Bool = λ k. record_clean c.args.base.now c.args.e (k + 1) in
-    let n = c.args.e.records in
+    let f : ℕ → Bool = λ k. record_clean c.args.set.now.base.now c.args.set.now.entry.now (k + 1) in
+    let n = c.args.set.now.entry.now.records in
     all_from_yields_List f _ _ _ c.all.ensures.ran (YieldsList-from_range 0 n n refl (omega arith)) (λ x b q k. search (rules, tests)) ∙ all_upto f n
