@@ -26,7 +26,7 @@ module _ {s : Stand} {number len : ℕ} {buffer base : List ℕ} (schema : List 
       rw (ne_eqb x 10 e) (record { number = h.number; line = kept_next len more x buffer kept s.line h.line k; base = h.base })
 
   -- the end of the input: whether anything is kept says whether there is a line
-  kept-length : length buffer ≡ 129 → len ≡ min 129 (length s.line)
+  pub kept-length : length buffer ≡ 129 → len ≡ min 129 (length s.line)
   kept-length f = omega (arith, h.line.fits, simp length-take at (ap length h.line.bytes))
 
   pub last_answered : {after : List ℕ} → length buffer ≡ 129 → (len ≡ 0 → ⊥) → after ≡ (responded number (take len buffer) schema base).base → after ≡ (last_reply schema s).base

@@ -15,7 +15,7 @@ use Rattle.schema.specs.Formed.{Formed}
 use Rattle.schema.specs.Layout.{links_before, links_to, path_key_length, key_place, body_place, length_of, blocks_of, first_block, total_blocks, size_rule, keeps_rules}
 use Rattle.schema.proofs.RuleFacts.{slot-entry}
 use Rattle.schema.proofs.LayoutLaws.{key_above, body_master, body_variable, per-some}
-use Rattle.schema.specs.Decode.{empty_entry, entry_from, schema_of, schema_in, full_entry}
+use Rattle.schema.specs.Decode.{empty_entry, entry_from, schema_of, decoded_schema, full_entry}
 use Rattle.schema.specs.declared.Entry.{Entry}
 use Rattle.decode.specs.declared.build.Links.{Links}
 use Rattle.decode.specs.Decoding.{Counted, PathAt}
@@ -206,23 +206,23 @@ module _ (s : List ℕ) (i : ℕ) {e : Entry} (q : e ≡ full_entry s i) where
       }
 
   -- the ways out
-  pub too_long : i < sets_of s → 508 < e.size → None ≡ schema_in s
-  unfolding schema_in keeps_rules size_rule
+  pub too_long : i < sets_of s → 508 < e.size → None ≡ decoded_schema s
+  unfolding decoded_schema keeps_rules size_rule
   too_long h l =
       rw (all_below-fails (fits s) (sets_of s) i h (lt-leb (length_of s i) 508 (rw q at l)), and-false (form_rule s)) refl
 
 module _ (s : List ℕ) {first : ℕ} {entries : List Entry} (d : LaidOut s (sets_of s) first entries) where
-  pub too_many : 4096 < first → None ≡ schema_in s
-  unfolding schema_in keeps_rules size_rule
+  pub too_many : 4096 < first → None ≡ decoded_schema s
+  unfolding decoded_schema keeps_rules size_rule
   too_many l =
       rw (d.short, lt-leb (total_blocks s) 4096 (rw d.next at l), and-false (form_rule s)) refl
 
   pub laid-all : form_rule s ≡ true → first ≤ 4096
-      → Some (record { edition = edition_of s; masters = masters_of s; variables = variables_of s; blocks = first; entries = entries }) ≡ schema_in s
-  unfolding schema_in keeps_rules size_rule schema_of entry_from
+      → Some (record { edition = edition_of s; masters = masters_of s; variables = variables_of s; blocks = first; entries = entries }) ≡ decoded_schema s
+  unfolding decoded_schema keeps_rules size_rule schema_of entry_from
   laid-all f l =
       rw (f, d.short, le-leb (total_blocks s) 4096 (rw d.next at l), d.next, d.made) refl
 
-pub no_form : (s : List ℕ) {b : Bool} → b ≡ form_rule s → not b ≡ true → None ≡ schema_in s
-unfolding schema_in keeps_rules
+pub no_form : (s : List ℕ) {b : Bool} → b ≡ form_rule s → not b ≡ true → None ≡ decoded_schema s
+unfolding decoded_schema keeps_rules
 no_form s {b} e n = rw (← e, not-true b n) refl

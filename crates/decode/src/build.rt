@@ -6,7 +6,7 @@ ghost use Rattle.schema.specs.Fields.{sets_of, count_of, master_of};
 ghost use Rattle.schema.specs.Rules.{master_of_slot, form_rule};
 ghost use Rattle.schema.specs.Formed.{Formed};
 ghost use Rattle.schema.specs.Layout.{links_before, path_key_length, key_place, body_place, first_block};
-ghost use Rattle.schema.specs.Decode.{empty_path, empty_entry, path_from, schema_in, full_path, full_entry};
+ghost use Rattle.schema.specs.Decode.{empty_path, empty_entry, path_from, decoded_schema, full_path, full_entry};
 ghost use Rattle.decode.specs.Decoding.{Counted, PathAt};
 
 use rules::fields;
@@ -228,7 +228,7 @@ fn laid_out(s: &[u8], l: Links) -> Option<Schema>
     requires formed { Formed s.now }
     requires s_value { form_rule s.now ≡ true }
     requires counted { Counted s.now (4 * sets_of s.now) l }
-    ensures { result ≡ schema_in s.now }
+    ensures { result ≡ decoded_schema s.now }
 {
     let mut entries = [no_entry(); 8];
     let mut first: u32 = 0;
@@ -255,7 +255,7 @@ fn laid_out(s: &[u8], l: Links) -> Option<Schema>
 // What a schema says that keeps the form's rules.
 pub(crate) fn decoded(s: &[u8]) -> Option<Schema>
     requires { form_rule s.now ≡ true }
-    ensures { result ≡ schema_in s.now }
+    ensures { result ≡ decoded_schema s.now }
 {
     let l = counted(s);
     laid_out(s, l)

@@ -2,7 +2,7 @@
 #![tactic(auto)]
 
 ghost use Rattle.std.specs.Prelude.{◌≡◌};
-ghost use Rattle.schema.specs.Decode.{schema_in};
+ghost use Rattle.schema.specs.Decode.{decoded_schema};
 
 use schema::Schema;
 
@@ -10,7 +10,7 @@ mod build;
 
 // Decodes a schema buffer of any length: document 01's rules for the schema are judged, and what it says is given where it keeps them.
 pub fn decode(s: &[u8]) -> Option<Schema>
-    ensures { result ≡ schema_in s.now }
+    ensures { result ≡ decoded_schema s.now }
 {
     if !rules::form(s) {
         return None;

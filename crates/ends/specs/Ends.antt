@@ -21,9 +21,9 @@ pub record Ends (o : Outcome) (s : Status) (r : ℕ) (a b : List ℕ) : Type 0 w
   pub base : b ≡ o.base
 
 -- the reference that a call returns: a refused one gives back what it was given
-abbrev pub reference_of : ℕ → Result Reference Refusal → ℕ
-reference_of given (Ok r) = r.0
-reference_of given (Err _) = given
+abbrev pub reference_returned : ℕ → Result Reference Refusal → ℕ
+reference_returned given (Ok r) = r.0
+reference_returned given (Err _) = given
 
 -- the number of a record, 0 for none
 abbrev pub number_of : Option RecordNo → ℕ

@@ -10,7 +10,7 @@ ghost use Rattle.terms.specs.Status.{status_of};
 ghost use Rattle.records.specs.Fields.{Fields};
 ghost use Rattle.plans.specs.PlanOk.{PlanOk, AreaOk};
 ghost use Rattle.plans.specs.Stores.{plan_stores};
-ghost use Rattle.ends.specs.Ends.{Ends, number_of, reference_of, gave, settled};
+ghost use Rattle.ends.specs.Ends.{Ends, number_of, reference_returned, gave, settled};
 
 use plans::Plan;
 use records::held::Set;
@@ -28,7 +28,7 @@ impl Answer {
     // A refused call gives back the reference that it was given.
     pub fn of(ended: Result<Reference, Refusal>, given: Reference) -> Answer
         ensures status { result.status ≡ status_of ended }
-        ensures reference { result.reference.0 ≡ reference_of given.0 ended }
+        ensures reference { result.reference.0 ≡ reference_returned given.0 ended }
     {
         match ended {
             Ok(reference) => Answer {
@@ -70,7 +70,7 @@ pub fn settle(
     requires fields { Fields e }
     requires plan_ok { PlanOk (length base.old) e plan }
     requires area_ok { AreaOk plan.head e area.now }
-    ensures { (given : ℕ) → Ends (settled (check_by e.edition) Done base.old (plan_stores base.old e area.now plan) after.0 given area.now) (status_of result) (reference_of given result) area.now base.new }
+    ensures { (given : ℕ) → Ends (settled (check_by e.edition) Done base.old (plan_stores base.old e area.now plan) after.0 given area.now) (status_of result) (reference_returned given result) area.now base.new }
 {
     if commit::commit(base, e, area, plan) {
         Ok(after)

@@ -22,7 +22,7 @@ use Rattle.plans.specs.Made.{body_plan}
 use Rattle.plans.proofs.BodyLaws.{body_stores}
 use Rattle.masters.specs.declared.Found.{Found}
 use Rattle.masters.specs.declared.Found.TheVariants.{At, Missing, Damaged}
-use Rattle.masters.specs.Find.{find, home_in, master_of}
+use Rattle.masters.specs.Find.{find, home_in, named_master}
 use Rattle.masters.proofs.FindLaws.{master_found, master_refused}
 use Rattle.masters.specs.Root.{add_master_full, add_master_damaged, add_master_stores, del_master_damaged, del_master_stores}
 use Rattle.points.specs.Chains.{has_points}
@@ -48,11 +48,11 @@ pub told-found : {f : Found} (b : List ℕ) (e : Entry) (key k : List ℕ) (g : 
 told-found b e key k g h l w = rw (← l) (sym h ∙ w)
 
 -- the same of the named master: why the call ends there, or the record
-pub told-refused : {f : Result RecordNo Refusal} {why : Refusal} (b : List ℕ) (e : Entry) (key k : List ℕ) → f ≡ master_of (find b e k) → k ≡ key → f ≡ Err why
-    → master_of (find b e key) ≡ Err why
+pub told-refused : {f : Result RecordNo Refusal} {why : Refusal} (b : List ℕ) (e : Entry) (key k : List ℕ) → f ≡ named_master (find b e k) → k ≡ key → f ≡ Err why
+    → named_master (find b e key) ≡ Err why
 told-refused b e key k h l w = rw (← l) (sym h ∙ w)
 
-pub told-at : {f : Result RecordNo Refusal} {m : RecordNo} (b : List ℕ) (e : Entry) (key k : List ℕ) → f ≡ master_of (find b e k) → k ≡ key → f ≡ Ok m → find b e key ≡ At m
+pub told-at : {f : Result RecordNo Refusal} {m : RecordNo} (b : List ℕ) (e : Entry) (key k : List ℕ) → f ≡ named_master (find b e k) → k ≡ key → f ≡ Ok m → find b e key ≡ At m
 told-at {m = m} b e key k h l w = (master_found (find b e key) m).0 (rw (← l) (sym h ∙ w))
 
 -- ---- refused by the search
@@ -64,7 +64,7 @@ module _ (o : Operation) (k : NamedCall o) (e : Entry) (r : ℕ) (key area b : L
   pub by_absence : find b e key ≡ Missing → AnswersOn o e r key area b Mrnf r area b
   by_absence g = record { told = λ t c n h at. missing_ends t c n o e r key area b k h at g }
 
-  pub by_search : {why : Refusal} → master_of (find b e key) ≡ Err why → AnswersOn o e r key area b (status_by why) r area b
+  pub by_search : {why : Refusal} → named_master (find b e key) ≡ Err why → AnswersOn o e r key area b (status_by why) r area b
   by_search {why} h =
       ⊎_elim (λ (w : (find b e key ≡ Damaged) × (status_by why ≡ Damg)). rw w.1 (by_damage w.0))
       (λ (w : (find b e key ≡ Missing) × (status_by why ≡ Mrnf)). rw w.1 (by_absence w.0)) (master_refused (find b e key) why h)
@@ -171,7 +171,7 @@ module _ (t : Schema) (n : ℕ) (e : Entry) (r : ℕ) (key area b : List ℕ) wh
   pub del_by_absence : find b e key ≡ Missing → AnswersIn t n DelM e r key area b Mrnf r area b
   del_by_absence g = record { told = λ c h at. missing_ends t c n DelM e r key area b delm-call h at g }
 
-  pub del_by_search : {why : Refusal} → master_of (find b e key) ≡ Err why → AnswersIn t n DelM e r key area b (status_by why) r area b
+  pub del_by_search : {why : Refusal} → named_master (find b e key) ≡ Err why → AnswersIn t n DelM e r key area b (status_by why) r area b
   del_by_search {why} h =
       ⊎_elim (λ (w : (find b e key ≡ Damaged) × (status_by why ≡ Damg)). rw w.1 (del_by_damage w.0))
       (λ (w : (find b e key ≡ Missing) × (status_by why ≡ Mrnf)). rw w.1 (del_by_absence w.0)) (master_refused (find b e key) why h)

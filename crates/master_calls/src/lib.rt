@@ -9,7 +9,7 @@ ghost use Rattle.records.specs.Areas.{is_master, area_length};
 ghost use Rattle.records.specs.Fields.{Fields};
 ghost use Rattle.terms.specs.declared.Status.TheVariants.{Done};
 ghost use Rattle.terms.specs.Status.{status_of};
-ghost use Rattle.ends.specs.Ends.{reference_of};
+ghost use Rattle.ends.specs.Ends.{reference_returned};
 ghost use Rattle.records.specs.InBase.{Laid, IsMasterSet};
 ghost use Rattle.master_calls.specs.Masters.{placed_at, formed_in, AnswersOn, AnswersIn};
 
@@ -71,7 +71,7 @@ pub fn readm(
     requires master_set { IsMasterSet e (length base.now) }
     requires key_len { length key.now ≡ e.key }
     requires area_len { length area.old ≡ area_length e }
-    ensures { AnswersOn Readm e reference.0 key.now area.old base.now (status_of result) (reference_of reference.0 result) area.new base.now }
+    ensures { AnswersOn Readm e reference.0 key.now area.old base.now (status_of result) (reference_returned reference.0 result) area.new base.now }
 {
     let masters = Masters::of(base, &e);
     let m = masters.named(Key::of(key))?;
@@ -89,7 +89,7 @@ pub fn writm(
     requires master_set { IsMasterSet e (length base.old) }
     requires key_len { length key.now ≡ e.key }
     requires area_len { length area.now ≡ area_length e }
-    ensures { AnswersOn Writm e reference.0 key.now area.now base.old (status_of result) (reference_of reference.0 result) area.now base.new }
+    ensures { AnswersOn Writm e reference.0 key.now area.now base.old (status_of result) (reference_returned reference.0 result) area.now base.new }
 {
     let masters = Masters::of(base, &e);
     let m = masters.named(Key::of(key))?;
@@ -107,7 +107,7 @@ pub fn addm(
     requires master_set { IsMasterSet e (length base.old) }
     requires key_len { length key.now ≡ e.key }
     requires area_len { length area.now ≡ area_length e }
-    ensures { AnswersOn AddM e reference.0 key.now area.now base.old (status_of result) (reference_of reference.0 result) area.now base.new }
+    ensures { AnswersOn AddM e reference.0 key.now area.now base.old (status_of result) (reference_returned reference.0 result) area.now base.new }
 {
     let k = Key::of(key);
     let masters = Masters::of(base, &e);
@@ -136,7 +136,7 @@ pub fn delm(
     requires n_lt_masters { n.0 < t.masters }
     requires e_value { e ≡ entry_of t n.0 }
     requires key_len { length key.now ≡ e.key }
-    ensures { AnswersIn t n.0 DelM e reference.0 key.now area.now base.old (status_of result) (reference_of reference.0 result) area.now base.new }
+    ensures { AnswersIn t n.0 DelM e reference.0 key.now area.now base.old (status_of result) (reference_returned reference.0 result) area.now base.new }
 {
     let k = Key::of(key);
     let masters = Masters::of(base, &e);

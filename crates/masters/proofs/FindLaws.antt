@@ -14,7 +14,7 @@ use Rattle.schema.specs.Place.{InSet, in_set}
 use Rattle.records.specs.Records.{is_live, root_next, master_key}
 use Rattle.masters.specs.declared.Found.{Found}
 use Rattle.masters.specs.declared.Found.TheVariants.{At, Missing, Damaged}
-use Rattle.masters.specs.Find.{home_in, held_by_own, seek, find, is_missing, is_damaged, master_of, tail_from}
+use Rattle.masters.specs.Find.{home_in, held_by_own, seek, find, is_missing, is_damaged, named_master, tail_from}
 
 pub in_set_true : (e : Entry) (r : ℕ) → in_set e r ≡ true → InSet e r
 in_set_true e r h =
@@ -76,28 +76,28 @@ find_at b e key q h =
 
 -- ---- the named master, as a call asks for it: a record, 16 or 12
 
-pub master_found : (f : Found) (m : RecordNo) → (master_of f ≡ Ok m) ↔ (f ≡ At m)
+pub master_found : (f : Found) (m : RecordNo) → (named_master f ≡ Ok m) ↔ (f ≡ At m)
 master_found (At r) m = (λ h. cc, λ h. cc)
 master_found Missing m = (λ h. cc, λ h. cc)
 master_found Damaged m = (λ h. cc, λ h. cc)
 
-pub master_missing : (f : Found) → (master_of f ≡ Err refusal.Mrnf) ↔ (f ≡ Missing)
+pub master_missing : (f : Found) → (named_master f ≡ Err refusal.Mrnf) ↔ (f ≡ Missing)
 master_missing (At r) = (λ h. cc, λ h. cc)
 master_missing Missing = (λ h. refl, λ h. refl)
 master_missing Damaged = (λ h. cc, λ h. cc)
 
-pub master_damaged : (f : Found) → (master_of f ≡ Err refusal.Damg) ↔ (f ≡ Damaged)
+pub master_damaged : (f : Found) → (named_master f ≡ Err refusal.Damg) ↔ (f ≡ Damaged)
 master_damaged (At r) = (λ h. cc, λ h. cc)
 master_damaged Missing = (λ h. cc, λ h. cc)
 master_damaged Damaged = (λ h. refl, λ h. refl)
 
 -- as a status; and the refusal that ends a call
-pub master_status_of : (f : Found) → status_of (master_of f) ≡ cond (is_damaged f) Damg (cond (is_missing f) Mrnf Done)
+pub master_status_of : (f : Found) → status_of (named_master f) ≡ cond (is_damaged f) Damg (cond (is_missing f) Mrnf Done)
 master_status_of (At r) = refl
 master_status_of Missing = refl
 master_status_of Damaged = refl
 
-pub master_refused : (f : Found) (why : Refusal) → master_of f ≡ Err why
+pub master_refused : (f : Found) (why : Refusal) → named_master f ≡ Err why
     → ((f ≡ Damaged) × (status_by why ≡ Damg)) ⊎ ((f ≡ Missing) × (status_by why ≡ Mrnf))
 master_refused (At r) why h = cc
 master_refused Missing why h = let w : why ≡ refusal.Mrnf = cc in inr (refl, rw w refl)

@@ -24,9 +24,9 @@ module _ (b : List ℕ) (e : Entry) (key : List ℕ) (r seen : ℕ) (more : seen
   left : e.records - seen ≡ suc (e.records - (seen + 1))
   left = omega arith
 
-  pub seek-none : r ≡ 0 → F.Damaged ≡ seek (e.records - seen) b e key r
+  pub seek-no_record : r ≡ 0 → F.Damaged ≡ seek (e.records - seen) b e key r
   unfolding seek
-  seek-none h = rw (left, lt-leb 1 r (omega arith)) refl
+  seek-no_record h = rw (left, lt-leb 1 r (omega arith)) refl
 
   pub seek-above : e.records < r → F.Damaged ≡ seek (e.records - seen) b e key r
   unfolding seek

@@ -59,10 +59,10 @@ record_found Missing = 0
 record_found Damaged = 0
 
 -- "find the named master (16, then 12)": the record that was found, or why a call ends there
-abbrev pub master_of : Found → Result RecordNo Refusal
-master_of (At r) = Ok r
-master_of Missing = Err Mrnf
-master_of Damaged = Err Damg
+abbrev pub named_master : Found → Result RecordNo Refusal
+named_master (At r) = Ok r
+named_master Missing = Err Mrnf
+named_master Damaged = Err Damg
 
 -- the last record that ROOT next leads to from r, with n more records to visit
 unfoldable pub tail_from : ℕ → List ℕ → Entry → ℕ → ℕ

@@ -4,7 +4,7 @@ ghost use Rattle.std.specs.Prelude.{◌≡◌, ◌<◌, ◌≤◌, length};
 ghost use Rattle.terms.specs.Terms.{key_of};
 ghost use Rattle.schema.specs.Place.{InSet, LiesIn};
 ghost use Rattle.schema.specs.Guarantee.{MasterOk};
-ghost use Rattle.masters.specs.Find.{own_home, held_by_own, seek, find, master_of};
+ghost use Rattle.masters.specs.Find.{own_home, held_by_own, seek, find, named_master};
 ghost use Rattle.masters.specs.Walks.{last_from, last_sought};
 
 use super::Found;
@@ -78,7 +78,7 @@ impl<'a> Masters<'a> {
     // "find the named master (16, then 12)"
     pub fn named(&self, k: Key) -> Result<RecordNo, Refusal>
         requires { k.len ≡ self.now.entry.now.key }
-        ensures { result ≡ master_of (find self.now.base.now self.now.entry.now (key_of k)) }
+        ensures { result ≡ named_master (find self.now.base.now self.now.entry.now (key_of k)) }
     {
         match self.find(k).found {
             Found::At(r) => Ok(r),
@@ -126,7 +126,7 @@ pub fn master(base: &[u8], e: Entry, k: Key) -> Result<RecordNo, Refusal>
     requires master_ok { MasterOk e }
     requires le_records { 1 ≤ e.records }
     requires len_value { k.len ≡ e.key }
-    ensures { result ≡ master_of (find base.now e (key_of k)) }
+    ensures { result ≡ named_master (find base.now e (key_of k)) }
 {
     Masters::of(base, &e).named(k)
 }

@@ -1,5 +1,6 @@
 -- The laws of `Below`: the turns of loops that count up, and what the answers say.
 use Rattle.std.specs.Prelude.{◌≡◌, ℕ, zero, suc, ◌+◌, ◌-◌, ◌<◌, ◌≤◌, Bool, true, false, cond, ◌&&◌, ◌⊎◌, List, [], ◌∷◌, ◌++◌, length, get_or, take, drop, set, ◌==◌, ◌≢◌}
+use Rattle.std.specs.List.{list_all, range_with_len}
 use Rattle.std.proofs.Math.Path.{refl}
 use Rattle.std.proofs.Common.{sym, ap, ◌∙◌, inl, inr, eq-or-lt_of_le, length-append, take-suc-set, drop-set-lt, drop-drop, eqb-true}
 use Rattle.std.proofs.Math.Bool.{and-eq-true_iff}
@@ -64,6 +65,19 @@ pub all_below-same : (f g : ℕ → Bool) (n : ℕ) → ((i : ℕ) → i < n →
 unfolding all_below
 all_below-same f g zero h = refl
 all_below-same f g (suc n) h = rw (all_below-same f g n (λ i l. h i (omega arith)), h n (omega arith)) refl
+
+-- a test of every number of a range, in its order: of n numbers from a on, where those below a pass; and of each number below n
+all-range : (f : ℕ → Bool) (n a m : ℕ) → a + n ≡ m → all_below f a ≡ true → list_all f (range_with_len a n) ≡ all_below f m
+all-range f zero a m e h = let q : a ≡ m = omega (arith, e) in rw q at (sym h)
+all-range f (suc n) a m e h = turn (f a) refl (λ k. all-range f n (a + 1) m (omega (arith, e)) (all_below-turn f a h k))
+  where
+    turn : (t : Bool) → f a ≡ t → (f a ≡ true → list_all f (range_with_len (a + 1) n) ≡ all_below f m) → (t && list_all f (range_with_len (a + 1) n)) ≡ all_below f m
+    turn true k more = more k
+    turn false k more = sym (all_below-fails f m a (omega (arith, e)) k)
+
+pub list_all-below : (f : ℕ → Bool) (n : ℕ) → list_all f (range_with_len 0 n) ≡ all_below f n
+unfolding all_below
+list_all-below f n = all-range f n 0 n (omega arith) refl
 
 -- ---- lowest_from
 

@@ -119,19 +119,19 @@ sum_short acc (a ∷ b ∷ c ∷ []) h = refl
 sum_short acc (a ∷ b ∷ c ∷ d ∷ xs) h = absurd (omega arith)
 
 -- a word, as the list of its four bytes, onto what is summed already
-abbrev pub added : ℕ → List ℕ → ℕ
-added acc w = (acc + word4 (slice_index w 0) (slice_index w 1) (slice_index w 2) (slice_index w 3)) % 4294967296
+abbrev pub word_added : ℕ → List ℕ → ℕ
+word_added acc w = (acc + word4 (slice_index w 0) (slice_index w 1) (slice_index w 2) (slice_index w 3)) % 4294967296
 
 -- a loop over the words: its turn and its end
 pub words_turn : (acc : ℕ) (words : List (List ℕ)) (i : ℕ) (d : List ℕ) → i < length words
-    → fold added acc (drop i words) ≡ fold added (added acc (get_or words i d)) (drop (i + 1) words)
+    → fold word_added acc (drop i words) ≡ fold word_added (word_added acc (get_or words i d)) (drop (i + 1) words)
 words_turn acc words i d h = rw (add-one, drop-cons words i d)
 
-pub words_end : (acc : ℕ) (words : List (List ℕ)) (i : ℕ) → length words ≤ i → fold added acc (drop i words) ≡ acc
+pub words_end : (acc : ℕ) (words : List (List ℕ)) (i : ℕ) → length words ≤ i → fold word_added acc (drop i words) ≡ acc
 words_end acc words i h = rw (drop_of_length-le words {i = i} h)
 
 -- the fold over the words is the sum; k is how many words they are
-sum_of_words : (k acc : ℕ) (xs : List ℕ) → k * 4 ≤ length xs → length xs < k * 4 + 4 → fold added acc (first_chunks 4 k xs) ≡ sum_onto acc xs
+sum_of_words : (k acc : ℕ) (xs : List ℕ) → k * 4 ≤ length xs → length xs < k * 4 + 4 → fold word_added acc (first_chunks 4 k xs) ≡ sum_onto acc xs
 unfolding sum_onto
 sum_of_words zero acc xs h l = sym (sum_short acc xs (omega arith))
 sum_of_words (suc k) acc [] h l = absurd (omega arith)
@@ -141,7 +141,7 @@ sum_of_words (suc k) acc (a ∷ b ∷ c ∷ []) h l = absurd (omega arith)
 sum_of_words (suc k) acc (a ∷ b ∷ c ∷ d ∷ xs) h l =
     sum_of_words k ((acc + word4 a b c d) % 4294967296) xs (omega arith) (omega arith)
 
-pub sum_of_chunks : (acc : ℕ) (xs : List ℕ) → fold added acc (first_chunks 4 (length xs / 4) xs) ≡ sum_onto acc xs
+pub sum_of_chunks : (acc : ℕ) (xs : List ℕ) → fold word_added acc (first_chunks 4 (length xs / 4) xs) ≡ sum_onto acc xs
 sum_of_chunks acc xs = sum_of_words (length xs / 4) acc xs (omega arith) (omega arith)
 
 pub sum_onto_lt : (acc : ℕ) (xs : List ℕ) → acc < 4294967296 → sum_onto acc xs < 4294967296

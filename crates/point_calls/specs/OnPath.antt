@@ -15,7 +15,7 @@ use Rattle.schema.specs.Place.{InSet}
 use Rattle.records.specs.Records.{first_on, last_on, prior_on, next_on}
 use Rattle.records.specs.Areas.{is_master, area_length, area_key_on}
 use Rattle.masters.specs.declared.Found.TheVariants.{At}
-use Rattle.masters.specs.Find.{find, is_missing, is_damaged, master_of}
+use Rattle.masters.specs.Find.{find, is_missing, is_damaged, named_master}
 use Rattle.points.specs.declared.Spot.{Spot}
 use Rattle.points.specs.declared.Spot.TheVariants.{Last, After, Before}
 use Rattle.points.specs.Chains.{is_point_of}
@@ -128,7 +128,7 @@ looked_at other (Ok m) = cond other (Err refusal.Ivrp) (Ok m)
 looked_at other (Err why) = Err why
 
 abbrev pub sighted_of : List ℕ → Entry → Path → Entry → ℕ → List ℕ → Bool → Result RecordNo Refusal
-sighted_of b e p x r key looks = looked_at (looks && not (is_point_of b e p key r)) (master_of (find b x key))
+sighted_of b e p x r key looks = looked_at (looks && not (is_point_of b e p key r)) (named_master (find b x key))
 
 -- it is done: the master is there, and so is the referenced record where it is looked at
 pub record Seen (b : List ℕ) (e : Entry) (p : Path) (x : Entry) (r : ℕ) (key : List ℕ) (looks : Bool) (m : RecordNo) : Type 0 where

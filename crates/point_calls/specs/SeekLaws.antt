@@ -18,7 +18,7 @@ use Rattle.schema.specs.declared.Schema.{Schema}
 use Rattle.records.specs.Records.{is_live, key_on}
 use Rattle.masters.specs.declared.Found.{Found}
 use Rattle.masters.specs.declared.Found.TheVariants.{At, Missing, Damaged}
-use Rattle.masters.specs.Find.{find, is_missing, is_damaged, master_of}
+use Rattle.masters.specs.Find.{find, is_missing, is_damaged, named_master}
 use Rattle.points.specs.Chains.{is_point_of}
 use Rattle.calls.proofs.SceneLaws.{operation-here}
 use Rattle.calls.specs.Call.{Call, Outcome}
@@ -40,14 +40,14 @@ pub sighted-status : (b : List ℕ) (e : Entry) (p : Path) (x : Entry) (r : ℕ)
 unfolding seek_status
 sighted-status b e p x r key looks = go (find b x key) (looks && not (is_point_of b e p key r))
   where
-    go : (f : Found) (z : Bool) → status_of (looked_at z (master_of f)) ≡ cond (is_damaged f) Damg (cond (is_missing f) Mrnf (cond z Ivrp Done))
+    go : (f : Found) (z : Bool) → status_of (looked_at z (named_master f)) ≡ cond (is_damaged f) Damg (cond (is_missing f) Mrnf (cond z Ivrp Done))
     go (At m) true = refl
     go (At m) false = refl
     go Missing z = refl
     go Damaged z = refl
 
 -- a search that refuses nothing has found a record
-found-one : (f : Found) (z : Bool) {m : RecordNo} → looked_at z (master_of f) ≡ Ok m → f ≡ At m
+found-one : (f : Found) (z : Bool) {m : RecordNo} → looked_at z (named_master f) ≡ Ok m → f ≡ At m
 found-one (At r) true h = absurd cc
 found-one (At r) false h = cc
 found-one Missing z h = absurd cc

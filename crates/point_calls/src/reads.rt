@@ -2,7 +2,7 @@
 ghost use Rattle.std.specs.Prelude.{◌≡◌, ◌≤◌, false, not, ◌⊎◌, eqb, length, IfSome};
 ghost use Rattle.terms.specs.Terms.{key_of};
 ghost use Rattle.terms.specs.Status.{status_of};
-ghost use Rattle.ends.specs.Ends.{reference_of, number_of};
+ghost use Rattle.ends.specs.Ends.{reference_returned, number_of};
 ghost use Rattle.terms.specs.declared.Operation.TheVariants.{Readd};
 ghost use Rattle.schema.specs.Place.{InSet};
 ghost use Rattle.records.specs.Areas.{area_length};
@@ -31,7 +31,7 @@ pub fn readd(
     requires key_len { length key.now ≡ l.masters.key }
     requires area_len { length area.old ≡ area_length l.entry }
     requires in_set { InSet l.entry reference.0 }
-    ensures { AnswersOnPath Readd l.entry l.path l.masters reference.0 key.now area.old base.now (status_of result) (reference_of reference.0 result) area.new base.now }
+    ensures { AnswersOnPath Readd l.entry l.path l.masters reference.0 key.now area.old base.now (status_of result) (reference_returned reference.0 result) area.new base.now }
 {
     seek(base, l, reference.0, Key::of(key), true)?;
     Ok(give(base, l.entry, Some(RecordNo(reference.0)), area))
@@ -105,7 +105,7 @@ fn read_from(
     requires area_len { length area.old ≡ area_length l.entry }
     requires fact { (reference.0 ≡ link_of l.path) ⊎ InSet l.entry reference.0 }
     requires seen { Seen base.now l.entry l.path l.masters reference.0 (key_of key) (not (eqb reference.0 (link_of l.path))) m }
-    ensures { AnswersOnPath (read_by back) l.entry l.path l.masters reference.0 (key_of key) area.old base.now (status_of result) (reference_of reference.0 result) area.new base.now }
+    ensures { AnswersOnPath (read_by back) l.entry l.path l.masters reference.0 (key_of key) area.old base.now (status_of result) (reference_returned reference.0 result) area.new base.now }
 {
     let linked = is_link(l, reference);
     let n = pointer_on(base, l, m, reference.0, linked, back);
@@ -129,7 +129,7 @@ pub fn read_along(
     requires key_len { length key.now ≡ l.masters.key }
     requires area_len { length area.old ≡ area_length l.entry }
     requires fact { (reference.0 ≡ link_of l.path) ⊎ InSet l.entry reference.0 }
-    ensures { AnswersOnPath (read_by back) l.entry l.path l.masters reference.0 key.now area.old base.now (status_of result) (reference_of reference.0 result) area.new base.now }
+    ensures { AnswersOnPath (read_by back) l.entry l.path l.masters reference.0 key.now area.old base.now (status_of result) (reference_returned reference.0 result) area.new base.now }
 {
     let k = Key::of(key);
     let linked = is_link(l, reference);

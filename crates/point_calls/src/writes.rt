@@ -5,7 +5,7 @@ ghost use Rattle.terms.specs.Status.{status_of};
 ghost use Rattle.schema.specs.Place.{InSet};
 ghost use Rattle.records.specs.Areas.{area_length, area_key_on};
 ghost use Rattle.calls.specs.Reply.{or_link};
-ghost use Rattle.ends.specs.Ends.{reference_of};
+ghost use Rattle.ends.specs.Ends.{reference_returned};
 ghost use Rattle.records.specs.InBase.{IsPath, IsPathAmong};
 ghost use Rattle.point_calls.specs.OnPath.{add_at, is_beside, Spotted, AnswersOnPath, AnswersAmong};
 
@@ -31,7 +31,7 @@ pub fn writv(
     requires key_len { length key.now ≡ l.masters.key }
     requires area_len { length area.now ≡ area_length l.entry }
     requires in_set { InSet l.entry reference.0 }
-    ensures { AnswersOnPath Writv l.entry l.path l.masters reference.0 key.now area.now base.old (status_of result) (reference_of reference.0 result) area.now base.new }
+    ensures { AnswersOnPath Writv l.entry l.path l.masters reference.0 key.now area.now base.old (status_of result) (reference_returned reference.0 result) area.now base.new }
 {
     seek(base, l, reference.0, Key::of(key), true)?;
     let r = RecordNo(reference.0);
@@ -66,7 +66,7 @@ pub fn add_at(
     requires area_len { length area.now ≡ area_length l.entry }
     requires on_value { area_key_on l.entry area.now l.on ≡ key.now }
     requires spotted { Spotted spot l.entry l.path reference.0 }
-    ensures { AnswersAmong (add_at spot) l.entry l.on l.path l.masters all reference.0 key.now area.now base.old (status_of result) (reference_of reference.0 result) area.now base.new }
+    ensures { AnswersAmong (add_at spot) l.entry l.on l.path l.masters all reference.0 key.now area.now base.old (status_of result) (reference_returned reference.0 result) area.now base.new }
 {
     let master = seek(base, l, reference.0, Key::of(key), is_beside(spot))?;
     let named = NamedPath { on: l.on, master };
@@ -99,7 +99,7 @@ pub fn delvd(
     requires path_among { IsPathAmong l.entry l.on l.path l.masters all (length base.old) }
     requires key_len { length key.now ≡ l.masters.key }
     requires in_set { InSet l.entry reference.0 }
-    ensures { AnswersAmong Delvd l.entry l.on l.path l.masters all reference.0 key.now area.now base.old (status_of result) (reference_of reference.0 result) area.now base.new }
+    ensures { AnswersAmong Delvd l.entry l.on l.path l.masters all reference.0 key.now area.now base.old (status_of result) (reference_returned reference.0 result) area.now base.new }
 {
     let master = seek(base, l, reference.0, Key::of(key), true)?;
     let r = RecordNo(reference.0);

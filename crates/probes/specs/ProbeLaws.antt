@@ -9,32 +9,32 @@ use Rattle.blocks.specs.declared.Check.{Check}
 use Rattle.blocks.specs.Blocks.{check_of}
 use Rattle.schema.specs.declared.Entry.{Entry}
 use Rattle.schema.specs.declared.Schema.{Schema}
-use Rattle.schema.specs.Decode.{schema_of, entry_of, set_count, schema_in}
+use Rattle.schema.specs.Decode.{schema_of, entry_of, set_count, decoded_schema}
 use Rattle.schema.specs.Place.{LiesIn, place_of}
 use Rattle.schema.proofs.PlaceLaws.{lies_most}
 use Rattle.schema.specs.Guarantee.{SchemaOk}
-use Rattle.schema.proofs.GuaranteeLaws.{schema_in-some, schema_in-none, lies}
+use Rattle.schema.proofs.GuaranteeLaws.{decoded_schema-some, decoded_schema-none, lies}
 use Rattle.probes.specs.Probes.{blocks_in, nowhere, place_in_set, place_under, place_in, sealed_alone, seal_alone, seal_answer}
 
 -- ---- a decoded schema
 
-module _ (s : List ℕ) {t : Schema} (e : schema_in s ≡ Some t) where
+module _ (s : List ℕ) {t : Schema} (e : decoded_schema s ≡ Some t) where
   pub blocks-some : t.blocks ≡ blocks_in s
   unfolding blocks_in schema_of
-  blocks-some = let k = schema_in-some s e in rw (k.1, k.0) refl
+  blocks-some = let k = decoded_schema-some s e in rw (k.1, k.0) refl
 
   pub place-some : (i r : ℕ) → place_under t i r ≡ place_in s i r
   unfolding place_in
-  place-some i r = let k = schema_in-some s e in rw (k.1, k.0) refl
+  place-some i r = let k = decoded_schema-some s e in rw (k.1, k.0) refl
 
-module _ (s : List ℕ) (e : schema_in s ≡ None) where
+module _ (s : List ℕ) (e : decoded_schema s ≡ None) where
   pub blocks-none : 0 ≡ blocks_in s
   unfolding blocks_in
-  blocks-none = rw (schema_in-none s e) refl
+  blocks-none = rw (decoded_schema-none s e) refl
 
   pub place_none : (i r : ℕ) → nowhere ≡ place_in s i r
   unfolding place_in
-  place_none i r = rw (schema_in-none s e) refl
+  place_none i r = rw (decoded_schema-none s e) refl
 
 -- ---- a record of a set, a set of a schema
 

@@ -18,11 +18,11 @@ use Rattle.schema.specs.declared.Entry.{Entry}
 use Rattle.schema.specs.declared.Schema.{Schema}
 use Rattle.schema.specs.Fields.{masters_of, sets_of, kind_of, count_of, master_of}
 use Rattle.schema.specs.Layout.{path_key_length, key_place, keeps_rules}
-use Rattle.schema.specs.Decode.{no_path, entry_of, path_of, paths_of, set_count, path_from, schema_of, schema_in, full_entry}
+use Rattle.schema.specs.Decode.{no_path, entry_of, path_of, paths_of, set_count, path_from, schema_of, decoded_schema, full_entry}
 use Rattle.schema.specs.Place.{place_of}
 use Rattle.schema.proofs.RuleFacts.{head_facts, set_facts, master-facts, variable-facts, path_facts}
 use Rattle.schema.proofs.LayoutLaws.{body_variable, body_master}
-use Rattle.schema.proofs.GuaranteeLaws.{set_is, path_is, schema_in-some}
+use Rattle.schema.proofs.GuaranteeLaws.{set_is, path_is, decoded_schema-some}
 use Rattle.records.specs.Records.{body_of, master_key}
 use Rattle.records.specs.Areas.{is_master, area_key_place, area_keys, area_length, keys_on, area_of}
 use Rattle.records.specs.Fields.{path_place, Fields}
@@ -234,6 +234,6 @@ module _ (s : List ℕ) (kept : keeps_rules s ≡ true) (i : ℕ) (l : i < sets_
   pub fields_of : Fields (entry_of (schema_of s) i)
   fields_of = rw (set_is s i (omega (arith, head_facts s kept)) l) set_fields
 
-pub decoded_fields : (s : List ℕ) (i : ℕ) {t : Schema} → schema_in s ≡ Some t → i < set_count t → Fields (entry_of t i)
+pub decoded_fields : (s : List ℕ) (i : ℕ) {t : Schema} → decoded_schema s ≡ Some t → i < set_count t → Fields (entry_of t i)
 unfolding schema_of
-decoded_fields s i h l = let k = schema_in-some s h in rw k.1 (fields_of s k.0 i (rw k.1 at l))
+decoded_fields s i h l = let k = decoded_schema-some s h in rw k.1 (fields_of s k.0 i (rw k.1 at l))

@@ -1,10 +1,7 @@
 -- The laws of Rules: how the test of the form goes, and what a schema that keeps its rules has.
-use Rattle.std.specs.Prelude.{ℕ, zero, suc, map, ◌+◌, ◌-◌, ◌/◌, ◌≤◌, ◌<◌, ◌≡◌, Bool, true, false, not, ◌&&◌, ◌||◌, List, [], ◌∷◌, eqb, length, get_or, take, drop}
+use Rattle.std.specs.Prelude.{ℕ, ◌+◌, ◌-◌, ◌/◌, ◌≤◌, ◌<◌, ◌≡◌, Bool, true, false, not, ◌&&◌, ◌||◌, List, [], ◌∷◌, eqb, length, get_or, take, drop}
 use Rattle.std.proofs.Math.Path.{refl}
-use Rattle.std.proofs.Common.{sym, ap, ◌∙◌, arith, take-suc, add-one, zero-add, take_all}
-use Rattle.std.specs.List.{list_all, range_with_len}
-use Rattle.std.proofs.lemmas.List.Folds.{list_all-append, list_all-map}
-use Rattle.std.proofs.lemmas.List.FromFn.{map-range_with_len_more}
+use Rattle.std.proofs.Common.{sym, ◌∙◌, arith, take-suc, add-one, take_all}
 use Rattle.std.proofs.Math.Nat.{add-sub_cancel_left}
 use Rattle.std.proofs.Math.Bool.{and-false, and-true, and-eq-true_iff}
 use borrow.Author.Tests.{eq-eqb, ne_eqb, not-true, not-false}
@@ -17,18 +14,6 @@ use Rattle.schema.specs.Fields.{edition_of, sets_of}
 use Rattle.schema.specs.Rules.{block_rule, head_rule, clash, is_path_slot, master_of_slot, letters_of_slot, form_rule}
 use Rattle.schema.proofs.FormFacts.{head_ok}
 use Rattle.rules.specs.Parts.{apart, body_rule}
-
--- ---- `all` over a range
-
--- a test of each number of 0..n, in its order, is a test of each number below n
-pub list_all-below : (f : ℕ → Bool) (n : ℕ) → list_all f (range_with_len 0 n) ≡ all_below f n
-unfolding all_below
-list_all-below f zero = refl
-list_all-below f (suc n) =
-    sym (list_all-map (λ b. b) f (range_with_len 0 (suc n)))
-    ∙ ap (list_all (λ b. b)) (rw add-one at (map-range_with_len_more f 0 n n (zero-add n)))
-    ∙ list_all-append (λ b. b) (map f (range_with_len 0 n)) (f n ∷ [])
-    ∙ rw (list_all-map (λ b. b) f (range_with_len 0 n), list_all-below f n, and-true) refl
 
 -- ---- a run of zeros, byte by byte
 

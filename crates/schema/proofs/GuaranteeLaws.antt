@@ -11,7 +11,7 @@ use Rattle.octets.specs.TestLaws.{never_both}
 use Rattle.schema.specs.declared.Schema.{Schema}
 use Rattle.schema.specs.Fields.{masters_of, sets_of, entry_at, slot_at, name_of, count_of, records_of, letters_of, master_of}
 use Rattle.schema.specs.Layout.{link_place, per_block, first_block, keeps_rules}
-use Rattle.schema.specs.Decode.{no_path, no_entry, entry_of, path_of, set_count, full_path, path_from, full_entry, entry_from, schema_of, schema_in}
+use Rattle.schema.specs.Decode.{no_path, no_entry, entry_of, path_of, set_count, full_path, path_from, full_entry, entry_from, schema_of, decoded_schema}
 use Rattle.schema.specs.Guarantee.{SetOk, MasterOk, VariableOk, PathOk, IsPathOf, SchemaOk}
 use Rattle.schema.proofs.PlaceLaws.{order?, div_mono, place_in_block, records-apart}
 use Rattle.schema.specs.Place.{InSet, block_of, place_of, LiesIn}
@@ -172,17 +172,17 @@ none_kept : (b : Bool) (u : Schema) → cond b (Some u) None ≡ None → b ≡ 
 none_kept true u h = cc
 none_kept false u h = refl
 
-pub schema_in-some : (s : List ℕ) {t : Schema} → schema_in s ≡ Some t → (keeps_rules s ≡ true) × (t ≡ schema_of s)
-unfolding schema_in
-schema_in-some s h = some_kept (keeps_rules s) (schema_of s) h
+pub decoded_schema-some : (s : List ℕ) {t : Schema} → decoded_schema s ≡ Some t → (keeps_rules s ≡ true) × (t ≡ schema_of s)
+unfolding decoded_schema
+decoded_schema-some s h = some_kept (keeps_rules s) (schema_of s) h
 
-pub schema_in-none : (s : List ℕ) → schema_in s ≡ None → keeps_rules s ≡ false
-unfolding schema_in
-schema_in-none s h = none_kept (keeps_rules s) (schema_of s) h
+pub decoded_schema-none : (s : List ℕ) → decoded_schema s ≡ None → keeps_rules s ≡ false
+unfolding decoded_schema
+decoded_schema-none s h = none_kept (keeps_rules s) (schema_of s) h
 
 -- and so what decoding calls a schema
-pub decoded_ok : (s : List ℕ) {t : Schema} → schema_in s ≡ Some t → SchemaOk t
-decoded_ok s h = let k = schema_in-some s h in rw k.1 (guaranteed s k.0)
+pub decoded_ok : (s : List ℕ) {t : Schema} → decoded_schema s ≡ Some t → SchemaOk t
+decoded_ok s h = let k = decoded_schema-some s h in rw k.1 (guaranteed s k.0)
 
 -- every set lies in a base of T blocks
 pub lies : {t : Schema} {n : ℕ} (i : ℕ) → SchemaOk t → i < set_count t → n ≡ 512 * t.blocks → LiesIn (entry_of t i) n

@@ -111,8 +111,8 @@ schema_of s =
     }
 
 -- the answer of decoding, on every buffer of every length: what the schema says, where it keeps every rule
-unfoldable pub schema_in : List ℕ → Option Schema
-schema_in s = cond (keeps_rules s) (Some (schema_of s)) None
+unfoldable pub decoded_schema : List ℕ → Option Schema
+decoded_schema s = cond (keeps_rules s) (Some (schema_of s)) None
 
 -- the set of path k's masters
 abbrev pub masters_on : Schema → Entry → ℕ → Entry

@@ -65,17 +65,17 @@ no_record_up_to most r e = ltb-true most r (none_unless (ltb most r) (record { 0
 -- ---- what the number says of the answer: x is the lowest number below n that f holds of, and a loop has come to i
 
 module _ (f : ℕ → Bool) (n i : ℕ) {x : ℕ} (left : lowest_from f (n - i) i ≡ x) where
-  pub found_here : i < n → f i ≡ true → x ≡ i
-  found_here l h = sym left ∙ lowest_from_hit f (n - i) (n - (i + 1)) i (omega arith) h
+  pub lowest_here : i < n → f i ≡ true → x ≡ i
+  lowest_here l h = sym left ∙ lowest_from_hit f (n - i) (n - (i + 1)) i (omega arith) h
 
   pub not_here : i < n → f i ≡ false → lowest_from f (n - (i + 1)) (i + 1) ≡ x
   not_here l h = sym (lowest_from-turn f (n - i) (n - (i + 1)) i (omega arith) h) ∙ left
 
-  pub found_nowhere : n ≤ i → x ≡ i
-  found_nowhere l = sym left ∙ lowest_from_end f (n - i) i (omega arith)
+  pub lowest_nowhere : n ≤ i → x ≡ i
+  lowest_nowhere l = sym left ∙ lowest_from_end f (n - i) i (omega arith)
 
-pub entry_here : (bound i x : ℕ) → i < bound → x ≡ i → Some (record { 0 = i }) ≡ entry_below bound x
-entry_here bound i x l e = rw (e, lt-ltb i bound l) refl
+pub entry_found_here : (bound i x : ℕ) → i < bound → x ≡ i → Some (record { 0 = i }) ≡ entry_below bound x
+entry_found_here bound i x l e = rw (e, lt-ltb i bound l) refl
 
 pub entry_nowhere : (bound x : ℕ) → bound ≤ x → None ≡ entry_below bound x
 entry_nowhere bound x l = rw (le-ltb x bound l) refl

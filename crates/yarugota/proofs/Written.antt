@@ -6,7 +6,7 @@ use Rattle.octets.specs.Octets.{zeros}
 use Rattle.calls.specs.Outcome.{outcome}
 use Rattle.cases.specs.Small.{small_schema}
 use Rattle.console.specs.Console.{format_call, Reply, responded}
-use Rattle.console.specs.SessionLaws.{line-answered}
+use Rattle.console.specs.SessionLaws.{line-answered, kept-length}
 use Rattle.console.specs.Session.{Stand, begun, byte_taken, bytes_taken, last_reply, session, StandsAt}
 use Rattle.yarugota.specs.Printed.{byte_printed, bytes_printed, small_session}
 
@@ -15,11 +15,8 @@ module _ {s : Stand} {number len : ℕ} {buffer base : List ℕ} (schema : List 
   pub newline_printed : {x : ℕ} → x ≡ 10 → byte_printed schema s x ≡ (responded number (take len buffer) schema base).printed
   newline_printed {x} e = rw (eq-eqb x 10 e) (ap (λ (r : Reply). r.printed) (sym (line-answered schema h)))
 
-  kept-length : length buffer ≡ 129 → len ≡ min 129 (length s.line)
-  kept-length f = omega (arith, h.line.fits, simp length-take at (ap length h.line.bytes))
-
   pub last_printed : length buffer ≡ 129 → (len ≡ 0 → ⊥) → (last_reply schema s).printed ≡ (responded number (take len buffer) schema base).printed
-  last_printed f e = rw (ne_eqb (length s.line) 0 (λ z. e (omega (arith, kept-length f)))) (ap (λ (r : Reply). r.printed) (sym (line-answered schema h)))
+  last_printed f e = rw (ne_eqb (length s.line) 0 (λ z. e (omega (arith, kept-length schema h f)))) (ap (λ (r : Reply). r.printed) (sym (line-answered schema h)))
 
 pub printed_append : (schema : List ℕ) (s : Stand) (xs ys : List ℕ)
     → bytes_printed schema s (xs ++ ys) ≡ bytes_printed schema s xs ++ bytes_printed schema (bytes_taken schema s xs) ys

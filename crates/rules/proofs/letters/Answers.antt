@@ -8,7 +8,7 @@ use Rattle.std.proofs.lemmas.Iterator.Search.{all_from_yields_List}
 use Rattle.octets.specs.Below.{all_below}
 use Rattle.schema.specs.Rules.{letters_rule}
 use Rattle.rules.specs.Parts.{apart}
-use Rattle.rules.specs.RulesLaws.{list_all-below}
+use Rattle.octets.specs.BelowLaws.{list_all-below}
 use Rattle.rules.proofs.letters.Goals as goal
 
 pub returns : goal.returns

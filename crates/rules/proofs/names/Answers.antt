@@ -7,7 +7,7 @@ use Rattle.std.proofs.lemmas.Iterator.Search.{all_from_yields_List}
 use Rattle.octets.specs.Below.{all_below}
 use Rattle.schema.specs.Rules.{names_rule}
 use Rattle.rules.specs.Parts.{older}
-use Rattle.rules.specs.RulesLaws.{list_all-below}
+use Rattle.octets.specs.BelowLaws.{list_all-below}
 use Rattle.rules.proofs.names.Goals as goal
 
 pub returns : goal.returns

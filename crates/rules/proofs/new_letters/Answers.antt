@@ -7,7 +7,8 @@ use Rattle.std.proofs.lemmas.Iterator.Search.{all_from_yields_List}
 use mathlib.Core.Path.{ap}
 use mathlib.Core.Bool.{not}
 use Rattle.rules.specs.Parts.{apart}
-use Rattle.rules.specs.RulesLaws.{list_all-below, unused_apart}
+use Rattle.octets.specs.BelowLaws.{list_all-below}
+use Rattle.rules.specs.RulesLaws.{unused_apart}
 use Rattle.rules.proofs.new_letters.Goals as goal
 
 pub returns-then-not-used : goal.returns-then-not-used

@@ -5,7 +5,7 @@ use Rattle.std.proofs.Math.Nat.{sub-zero}
 use Rattle.std.proofs.lemmas.Iterator.{YieldsList-from_range}
 use Rattle.std.proofs.lemmas.Iterator.Search.{all_from_yields_List}
 use Rattle.rules.specs.Parts.{older}
-use Rattle.rules.specs.RulesLaws.{list_all-below}
+use Rattle.octets.specs.BelowLaws.{list_all-below}
 use Rattle.rules.proofs.new_name.Goals as goal
 
 pub returns : goal.returns

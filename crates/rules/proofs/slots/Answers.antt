@@ -4,7 +4,7 @@ use Rattle.std.proofs.Common.{tests, rules}
 use Rattle.std.proofs.lemmas.Iterator.{YieldsList-from_range}
 use Rattle.std.proofs.lemmas.Iterator.Search.{all_from_yields_List}
 use Rattle.schema.specs.Rules.{slot_rule}
-use Rattle.rules.specs.RulesLaws.{list_all-below}
+use Rattle.octets.specs.BelowLaws.{list_all-below}
 use Rattle.rules.proofs.slots.Goals as goal
 
 pub returns : goal.returns

@@ -2,7 +2,7 @@ use borrow.Author.Rules.{rules}
 use Rattle.std.proofs.Common.{refl, ◌∙◌}
 use native.Mathlib.Nat.{sub-zero}
 use Rattle.terms.specs.Terms.{key_of}
-use Rattle.masters.proofs.WalkLaws.{seek_out, seek-none, seek-above, seek_free, seek_here, seek_end, seek_on}
+use Rattle.masters.proofs.WalkLaws.{seek_out, seek-no_record, seek-above, seek_free, seek_here, seek_end, seek_on}
 use Rattle.masters.proofs.held.Masters.seek_from.Goals as goal
 use Rattle.masters.proofs.held.Masters.seek_from.Goals.{then-at-eq0-via-then-at-eq0, then-at-eq0-via-else-at-eq0+then-records-at}
 
@@ -39,7 +39,7 @@ pub returns-then-at-eq0-clause-found_value : goal.returns-then-at-eq0-clause-fou
 returns-then-at-eq0-clause-found_value c =
     let a = c.args in
     elim c.then-at-eq0.branch [
-      | then-at-eq0-via-then-at-eq0 w ↦ seek-none a.self.now.base.now a.self.now.entry.now (key_of a.k) c.loop.at c.loop.counter
+      | then-at-eq0-via-then-at-eq0 w ↦ seek-no_record a.self.now.base.now a.self.now.entry.now (key_of a.k) c.loop.at c.loop.counter
           c.loop-test.true w.if-at-eq0.true ∙ c.loop.invariant.0
       | then-at-eq0-via-else-at-eq0+then-records-at w ↦ seek-above a.self.now.base.now a.self.now.entry.now (key_of a.k) c.loop.at c.loop.counter
           c.loop-test.true w.if-records-at.true ∙ c.loop.invariant.0
