@@ -3,16 +3,15 @@ ghost use Rattle.std.specs.Prelude.{◌≡◌, ◌+◌, ◌≤◌, ◌<◌, leng
 ghost use Rattle.octets.specs.Octets.{run};
 ghost use Rattle.terms.specs.Terms.{key_of};
 ghost use Rattle.schema.specs.Decode.{path_of};
-ghost use Rattle.schema.specs.Place.{InSet, LiesIn, bytes_of};
+ghost use Rattle.schema.specs.Place.{InSet, bytes_of};
 ghost use Rattle.points.specs.Chains.{is_point_of, bad_neighbour};
 ghost use Rattle.point_plans.specs.Paths.{uneven_at, damaged_at, damaged};
 ghost use Rattle.point_plans.specs.Within.{OwnerIn, OwnersIn, KeysIn};
-ghost use Rattle.records.specs.InBase.{PathIn};
 
 use super::held::{OnPath, Points};
 use records::Link;
+use schema::Part;
 use schema::layout::bytes_of;
-use schema::{Entry, Part, Path};
 use terms::{Key, RecordNo};
 
 // "first and last are one 0 and one not": they stand at `link` of the master's part.
@@ -92,23 +91,4 @@ impl<'a> Points<'a> {
     {
         (0..self.entry.count as usize).any(|k| self.damaged_on(src, at[k], owners[k], links[k], k))
     }
-}
-
-pub fn is_point(base: &[u8], e: Entry, p: Path, key: Key, r: RecordNo) -> bool
-    requires lies_in { LiesIn e (length base.now) }
-    requires path_in { PathIn e p }
-    requires len_value { key.len ≡ p.len }
-    requires in_set { InSet e r.0 }
-    ensures { result ≡ is_point_of base.now e p (key_of key) r.0 }
-{
-    OnPath::of(base, &e, p).is_point(key, r)
-}
-
-pub fn bad_neighbour(base: &[u8], e: Entry, p: Path, key: Key, n: u32) -> bool
-    requires lies_in { LiesIn e (length base.now) }
-    requires path_in { PathIn e p }
-    requires len_value { key.len ≡ p.len }
-    ensures { result ≡ bad_neighbour base.now e p (key_of key) n }
-{
-    OnPath::of(base, &e, p).bad_neighbour(key, n)
 }

@@ -75,12 +75,11 @@ impl<'a> Points<'a> {
         OnPath::of(self.base, self.entry, path_of(*self.entry, k))
     }
 
-    // The record of a number.
-    pub fn record(&self, r: RecordNo) -> Record<'a>
-        requires { InSet self.now.entry.now r.0 }
-        ensures { (result.base.now ≡ self.now.base.now) × (result.entry.now ≡ self.now.entry.now) × (result.number.0 ≡ r.0) }
+    // The set of their records.
+    pub fn set(&self) -> Set<'a>
+        ensures { (result.base.now ≡ self.now.base.now) × (result.entry.now ≡ self.now.entry.now) }
     {
-        Set::of(self.base, self.entry).record(r)
+        Set::of(self.base, self.entry)
     }
 }
 

@@ -20,14 +20,14 @@ ghost use Rattle.points.specs.Points.{new_place, add_place, add_stores, del_stor
 ghost use Rattle.point_plans.specs.Rest.{add_status, del_status};
 ghost use Rattle.point_plans.specs.Paths.{own_links, new_links, place_at, both_on, damaged};
 ghost use Rattle.point_plans.specs.Within.{OwnersIn, KeysIn, LinksIn, SpotIn};
-ghost use Rattle.records.specs.InBase.{masters_kept, MastersOf, PointsIn, PathsIn};
+ghost use Rattle.records.specs.InBase.{masters_kept, MastersOf, PointsIn};
 ghost use Rattle.point_plans.specs.Plans.{Built};
 
 use held::{Paths, Points};
 use plans::{Head, Plan};
 use points::Spot;
 use records::Link;
-use scan::lowest_free;
+use scan::lowest_free_in;
 use schema::{Entry, Part};
 use terms::{RecordNo, Refusal};
 
@@ -75,7 +75,7 @@ impl<'a> Points<'a> {
     fn new_place(&self, prior: u32) -> Option<RecordNo>
         ensures { result ≡ record_up_to self.now.entry.now.records (new_place self.now.base.now self.now.entry.now prior) }
     {
-        lowest_free(self.base, *self.entry)
+        lowest_free_in(&self.set())
     }
 
     // The rest of an add, once every path's master is found: "15; 16".
@@ -148,48 +148,9 @@ impl<'a> Paths<'a> {
         ensures plan { (t : Schema) → MastersOf t self.now.entry.now self.now.masters.now → IfOk result (λ plan. ((area : List ℕ) → plan_stores self.now.base.now self.now.entry.now area plan ≡ del_stores self.now.base.now t self.now.entry.now r.0) × PlanOk (length self.now.base.now) self.now.entry.now plan × (plan.head ≡ Nothing)) }
     {
         let points = self.points();
-        let part = points.record(r).bytes();
+        let part = points.set().record(r).bytes();
         let at = search::record_places(*self.entry);
         let owners = self.all_owners(part, at, named, Refusal::Damg)?;
         points.delete_known(r, part, at, owners)
     }
-}
-
-// An add, once the named path's master and the referenced record are known: what is left to refuse, or the plan of the new record. `masters`
-// are those of each path.
-pub fn add(
-    base: &[u8],
-    e: Entry,
-    masters: [Entry; 4],
-    area: &[u8],
-    spot: Spot,
-    named: NamedPath,
-) -> Result<Plan, Refusal>
-    requires paths_in { PathsIn e masters (length base.now) }
-    requires area_len { length area.now ≡ area_length e }
-    requires spot_in { SpotIn spot e }
-    requires on_lt_count { named.on < e.count }
-    requires on_value { find base.now (masters_kept masters named.on) (area_key_on e area.now named.on) ≡ At named.master }
-    ensures status { (t : Schema) → MastersOf t e masters → status_of result ≡ add_status base.now t e area.now spot named.on }
-    ensures plan { (t : Schema) → MastersOf t e masters → IfOk result (λ plan. (plan_stores base.now e area.now plan ≡ add_stores base.now t e area.now spot named.on (add_place base.now t e area.now spot named.on)) × PlanOk (length base.now) e plan × (plan.target.0 ≡ add_place base.now t e area.now spot named.on) × (plan.head ≡ Variable)) }
-{
-    Paths::of(base, &e, &masters).add(area, spot, named)
-}
-
-// DELVD of the record r, once it and the named path's master are known.
-pub fn delete(
-    base: &[u8],
-    e: Entry,
-    masters: [Entry; 4],
-    r: RecordNo,
-    named: NamedPath,
-) -> Result<Plan, Refusal>
-    requires paths_in { PathsIn e masters (length base.now) }
-    requires in_set { InSet e r.0 }
-    requires on_lt_count { named.on < e.count }
-    requires on_value { find base.now (masters_kept masters named.on) (key_on base.now e r.0 (path_of e named.on)) ≡ At named.master }
-    ensures status { (t : Schema) → MastersOf t e masters → status_of result ≡ del_status base.now t e r.0 named.on }
-    ensures plan { (t : Schema) → MastersOf t e masters → IfOk result (λ plan. ((area : List ℕ) → plan_stores base.now e area plan ≡ del_stores base.now t e r.0) × PlanOk (length base.now) e plan × (plan.head ≡ Nothing)) }
-{
-    Paths::of(base, &e, &masters).delete(r, named)
 }
