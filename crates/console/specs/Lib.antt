@@ -1,11 +1,13 @@
 pub mod Lines
 pub mod References
 pub mod Console
+pub mod Asked
 pub mod Session
 pub mod SessionLaws
 pub mod LineLaws
 pub mod ReferenceLaws
 pub mod PrinterLaws
 pub mod ConsoleLaws
+pub mod AskedLaws
 pub mod SmallLaws
 pub mod Listing

@@ -3,10 +3,10 @@
 #![tactic(auto)]
 
 ghost use Rattle.std.specs.Prelude.{◌≡◌, true, false, cond, ◌≤◌, [], ◌∷◌, ◌++◌, eqb, length, take, set};
-ghost use Rattle.calls.specs.Call.{call_of};
-ghost use Rattle.console.specs.Lines.{field_of};
-ghost use Rattle.console.specs.Console.{Six, fields_made, is_read, record_given, own_area, call_in, Replied, reply_to, responded, KeptLine};
+ghost use Rattle.console.specs.Console.{is_read, record_given, own_area, Replied, reply_to, responded, KeptLine};
+ghost use Rattle.console.specs.Asked.{call_asked};
 
+use asked::Asked;
 use ends::Answer;
 use terms::{Operation, Reference, Status};
 
@@ -20,107 +20,56 @@ pub mod small;
 fn is_read(op: &[u8; 5]) -> bool
     ensures { result ≡ is_read op.now }
 {
-    let o = Operation::of(op);
-    match o {
-        Operation::Readm => true,
-        Operation::Rdnxt => true,
-        Operation::Readv => true,
-        Operation::Readr => true,
-        Operation::Readd => true,
-        Operation::Formt => false,
-        Operation::Sinon => false,
-        Operation::AddM => false,
-        Operation::DelM => false,
-        Operation::Writm => false,
-        Operation::Rqloc => false,
-        Operation::Writv => false,
-        Operation::Addvc => false,
-        Operation::Addvb => false,
-        Operation::Addva => false,
-        Operation::Delvd => false,
-        Operation::Unknown => false,
-    }
+    matches!(
+        Operation::from(op),
+        Operation::Readm | Operation::Rdnxt | Operation::Readv | Operation::Readr | Operation::Readd
+    )
 }
 
 // Is this the answer of a read that gave a record?
-fn record_given(status: Status, reference: Reference) -> bool
-    ensures { result ≡ record_given status reference.0 }
+fn record_given(answer: Answer) -> bool
+    ensures { result ≡ record_given answer.status answer.reference.0 }
 {
-    let end = Reference::end();
-    (status.number() == 0) & (reference.0 != end.0)
+    (answer.status == Status::Done) & (answer.reference != Reference::END)
 }
 
 // A read: it is lent an area of 8 bytes, and prints it if the read gave a record.
-fn read(
-    number: u64,
-    op: &[u8; 5],
-    set: &[u8; 4],
-    reference: Reference,
-    path: &[u8; 8],
-    key: &[u8],
-    schema: &[u8],
-    base: &mut [u8],
-    out: &mut [u8; 64],
-) -> usize
-    requires { is_read op.now ≡ true }
-    ensures { Replied result out.old out.new base.new (reply_to number op.now (call_of op.now set.now reference.0 path.now key.now own_area schema.now base.old)) }
+fn read(number: u64, asked: &Asked, schema: &[u8], base: &mut [u8], out: &mut [u8; 64]) -> usize
+    requires { is_read asked.now.operation ≡ true }
+    ensures { Replied result out.old out.new base.new (reply_to number asked.now.operation (call_asked asked.now own_area schema.now base.old)) }
 {
     let mut area = [0u8; 8];
-    let a: Answer = store::call(op, set, reference, path, key, &mut area, schema, base);
-    let status = a.status;
-    let back = a.reference;
-    let at = printer::answer(out, number, status, back);
-    if record_given(status, back) {
+    let a = asked.call(&mut area, schema, base);
+    let at = printer::answer(out, number, a.status, a.reference);
+    if record_given(a) {
         return printer::finish(out, at, &area);
     }
     printer::finish(out, at, b"-")
 }
 
 // Any other call: its area is the line's, and is not printed.
-fn act(
-    number: u64,
-    op: &[u8; 5],
-    set: &[u8; 4],
-    reference: Reference,
-    path: &[u8; 8],
-    key: &[u8],
-    given: &[u8],
-    schema: &[u8],
-    base: &mut [u8],
-    out: &mut [u8; 64],
-) -> usize
-    requires op_value { is_read op.now ≡ false }
-    requires given_len_bound { length given.now ≤ 128 }
-    ensures { Replied result out.old out.new base.new (reply_to number op.now (call_of op.now set.now reference.0 path.now key.now given.now schema.now base.old)) }
+fn act(number: u64, asked: &Asked, schema: &[u8], base: &mut [u8], out: &mut [u8; 64]) -> usize
+    requires op_value { is_read asked.now.operation ≡ false }
+    requires given_len_bound { length asked.now.area.now ≤ 128 }
+    ensures { Replied result out.old out.new base.new (reply_to number asked.now.operation (call_asked asked.now asked.now.area.now schema.now base.old)) }
 {
     let mut area = [0u8; 128];
-    octets::copy_in(&mut area, 0, given);
-    let n = given.len();
-    let a: Answer = store::call(op, set, reference, path, key, &mut area[..n], schema, base);
-    let status = a.status;
-    let back = a.reference;
-    let at = printer::answer(out, number, status, back);
+    let n = asked.area.len();
+    octets::copy_in(&mut area, 0, asked.area);
+    let a = asked.call(&mut area[..n], schema, base);
+    let at = printer::answer(out, number, a.status, a.reference);
     printer::finish(out, at, b"-")
 }
 
-// A line that is well made: its call.
-fn ask(number: u64, line: &[u8], schema: &[u8], base: &mut [u8], out: &mut [u8; 64]) -> usize
-    requires six { Six line.now }
-    requires line_value { fields_made line.now ≡ true }
-    ensures { Replied result out.old out.new base.new (reply_to number (field_of line.now 0) (call_in line.now schema.now base.old)) }
+// Makes the call that a line asks for.
+fn ask(number: u64, asked: &Asked, schema: &[u8], base: &mut [u8], out: &mut [u8; 64]) -> usize
+    requires { length asked.now.area.now ≤ 128 }
+    ensures { Replied result out.old out.new base.new (reply_to number asked.now.operation (call_asked asked.now (cond (is_read asked.now.operation) own_area asked.now.area.now) schema.now base.old)) }
 {
-    let op = asked::operation_in(line);
-    let set = asked::set_in(line);
-    let reference = asked::reference_in(line);
-    let path = asked::path_in(line);
-    let key = asked::part_in(line, 4);
-    if is_read(&op) {
-        return read(number, &op, &set, reference, &path, key, schema, base, out);
+    if is_read(&asked.operation) {
+        return read(number, asked, schema, base, out);
     }
-    let area = asked::part_in(line, 5);
-    act(
-        number, &op, &set, reference, &path, key, area, schema, base, out,
-    )
+    act(number, asked, schema, base, out)
 }
 
 // Makes the call of a line, if it is well made, and prints its answer: how many bytes of `out` it has.
@@ -133,16 +82,10 @@ pub fn respond(
 ) -> usize
     ensures { Replied result out.old out.new base.new (responded number line.now schema.now base.old) }
 {
-    if line.len() > 128 {
-        return printer::form(out, number);
+    match Asked::parse(line) {
+        None => printer::form(out, number),
+        Some(a) => ask(number, &a, schema, base, out),
     }
-    if !asked::six_fields(line) {
-        return printer::form(out, number);
-    }
-    if !asked::made(line) {
-        return printer::form(out, number);
-    }
-    ask(number, line, schema, base, out)
 }
 
 // Stores a byte of a line behind the n that are kept. Of a longer line 129 bytes are kept: enough to tell that it is over 128.

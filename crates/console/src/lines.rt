@@ -1,19 +1,17 @@
 // The six fields of a line.
-ghost use Rattle.std.specs.Prelude.{◌≡◌, true, ◌+◌, ◌≤◌, length};
+ghost use Rattle.std.specs.Prelude.{◌≡◌, ◌≢◌, true, false, ◌+◌, ◌≤◌, length, MatchOption};
 ghost use Rattle.console.specs.Lines.{end_from, end_of, start_of, field_of, is_dash, is_name, name_in, is_part, given_part};
 
 // Where the field that begins at `at` ends: at the next blank, or at the line's end.
 fn end_from(line: &[u8], at: usize) -> usize
     ensures { result ≡ end_from line.now at }
 {
-    let mut i = at;
-    while i < line.len() {
-        if line[i] == 32 {
+    for i in at..line.len() {
+        if line[i] == b' ' {
             return i;
         }
-        i += 1;
     }
-    i
+    at.max(line.len())
 }
 
 // Where field k ends.
@@ -22,10 +20,8 @@ pub fn end_of(line: &[u8], k: usize) -> usize
     ensures { result ≡ end_of line.now k }
 {
     let mut at = end_from(line, 0);
-    let mut i: usize = 0;
-    while i < k {
+    for _i in 0..k {
         at = end_from(line, at + 1);
-        i += 1;
     }
     at
 }
@@ -59,63 +55,32 @@ fn is_dash(f: &[u8]) -> bool
     octets::same(f, b"-")
 }
 
-// Is the field a name of n bytes, or "-"?
-pub fn is_name(f: &[u8], n: usize) -> bool
-    ensures { result ≡ is_name n f.now }
-{
-    let dash = is_dash(f);
-    (f.len() == n) | dash
-}
-
-// Has the field any bytes?
-pub fn is_part(f: &[u8]) -> bool
-    ensures { result ≡ is_part f.now }
-{
-    f.len() != 0
-}
-
-// A key or an area; "-" is empty.
-pub fn part(f: &[u8]) -> &[u8]
-    ensures { result.now ≡ given_part f.now }
-{
-    if is_dash(f) {
-        return &f[..0];
-    }
-    f
-}
-
-// A set's name; "-" is passed as blanks.
-pub fn set_name(f: &[u8]) -> [u8; 4]
-    requires { is_name 4 f.now ≡ true }
-    ensures { result ≡ name_in 4 f.now }
-{
-    let mut name = [32u8; 4];
-    if is_dash(f) {
-        return name;
-    }
-    octets::copy_in(&mut name, 0, f);
-    name
-}
-
-// A path's name; "-" is passed as blanks.
-pub fn path_name(f: &[u8]) -> [u8; 8]
-    requires { is_name 8 f.now ≡ true }
-    ensures { result ≡ name_in 8 f.now }
-{
-    let mut name = [32u8; 8];
-    if is_dash(f) {
-        return name;
-    }
-    octets::copy_in(&mut name, 0, f);
-    name
-}
-
 // An operation's five bytes.
-pub fn operation(f: &[u8]) -> [u8; 5]
-    requires { length f.now ≡ 5 }
-    ensures { result ≡ f.now }
+pub fn operation(f: &[u8]) -> Option<[u8; 5]>
+    ensures { MatchOption result (length f.now ≢ 5) (λ operation. (length f.now ≡ 5) × (operation ≡ f.now)) }
 {
-    let mut name = [32u8; 5];
-    octets::copy_in(&mut name, 0, f);
-    name
+    <[u8; 5]>::try_from(f).ok()
+}
+
+// A name of N bytes; "-" is passed as blanks.
+pub fn name<const N: usize>(f: &[u8]) -> Option<[u8; N]>
+    ensures { MatchOption result (is_name N f.now ≡ false) (λ name. (is_name N f.now ≡ true) × (name ≡ name_in N f.now)) }
+{
+    if is_dash(f) {
+        return Some([b' '; N]);
+    }
+    <[u8; N]>::try_from(f).ok()
+}
+
+// A key or an area, which has bytes; "-" is empty.
+pub fn part(f: &[u8]) -> Option<&[u8]>
+    ensures { MatchOption result (is_part f.now ≡ false) (λ part. (is_part f.now ≡ true) × (part.now ≡ given_part f.now)) }
+{
+    if f.is_empty() {
+        return None;
+    }
+    if is_dash(f) {
+        return Some(&f[..0]);
+    }
+    Some(f)
 }

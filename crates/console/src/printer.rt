@@ -18,29 +18,19 @@ pub fn put(out: &mut [u8; 64], at: usize, src: &[u8]) -> usize
     at + src.len()
 }
 
-// The last digit of n.
-fn last_digit(n: u64) -> u8
-    ensures { result ≡ 48 + n % 10 }
-{
-    48 + ((n % 10) as u8)
-}
-
 // The digits of n, stored up to the buffer's end: where they begin.
-fn spell(digits: &mut [u8], n: u64) -> usize
-    requires { length digits.old ≡ 20 }
+fn spell(digits: &mut [u8; 20], n: u64) -> usize
     ensures { (drop result digits.new ≡ decimal n) × (result ≤ 20) }
 {
-    let mut i: usize = 20;
     let mut rest = n;
-    while 0 < i {
-        i -= 1;
-        digits[i] = last_digit(rest);
+    for i in (0..20).rev() {
+        digits[i] = b'0' + (rest % 10) as u8;
         if rest < 10 {
             return i;
         }
         rest /= 10;
     }
-    i
+    0
 }
 
 // Puts a number in decimal.
@@ -59,11 +49,9 @@ fn put_reference(out: &mut [u8; 64], at: usize, v: u32) -> usize
     ensures { (result ≤ at + 20) × (take result out.new ≡ take at out.old ++ written v) × RestStays result out.old out.new × (at ≤ result) }
 {
     if is_spelt(v) {
-        let mut four = [0u8; 4];
-        octets::put_word(&mut four, 0, v);
-        return put(out, at, &four);
+        return put(out, at, &v.to_be_bytes());
     }
-    put_decimal(out, at, v as u64)
+    put_decimal(out, at, u64::from(v))
 }
 
 // Begins a line: its number and a code, a blank behind each.

@@ -1,6 +1,6 @@
 -- What is printed, byte by byte, and what a writer then holds.
-use Rattle.std.specs.Prelude.{ℕ, ◌+◌, ◌<◌, ◌≡◌, refl, List, [], ◌∷◌, ◌++◌, length, min, get_or, take, Option, None, Some, IfSome}
-use Rattle.std.proofs.Common.{sym, ap, subst, length-append, ◌∙◌, arith, add-one, length-take, take-suc, append_assoc, append-nil, eq-eqb, ne_eqb}
+use Rattle.std.specs.Prelude.{ℕ, ◌+◌, ◌<◌, ◌≡◌, refl, List, [], ◌∷◌, ◌++◌, length, get_or, take, Option, None, Some, IfSome}
+use Rattle.std.proofs.Common.{sym, ap, subst, length-append, ◌∙◌, arith, add-one, take-suc, append_assoc, append-nil, eq-eqb, ne_eqb}
 use Rattle.std.specs.Io.KnownBytes.{Consumes, IsAtEnd}
 use Rattle.octets.specs.Octets.{zeros}
 use Rattle.calls.specs.Outcome.{outcome}

@@ -7,6 +7,7 @@ use lib.Dec.{eqb}
 use lib.ListN.{length, get_or}
 use borrow.Author.Tests.{eq-eqb, ne_eqb}
 use Rattle.octets.specs.BelowLaws.{lowest_from-turn, lowest_from_hit, lowest_from_end}
+use Rattle.console.specs.LineLaws.{end_from_ge, end_from_le}
 use Rattle.console.proofs.lines.end_from.Goals as goal
 
 abbrev blank_at : List ℕ → ℕ → Bool
@@ -28,4 +29,5 @@ loop-i-preserved c =
 pub returns : goal.returns
 returns c =
     let s = c.args.line.now in
-    sym (lowest_from_end (blank_at s) (length s - c.loop-i.i) c.loop-i.i (omega arith)) ∙ c.loop-i.invariant
+    let e = sym (lowest_from_end (blank_at s) (length s - c.loop-i.i) c.loop-i.i (omega arith)) ∙ c.loop-i.invariant in
+    omega (arith, e, c.max.ensures, end_from_ge s c.args.at, end_from_le s c.args.at)

@@ -1,35 +1,43 @@
-use Prim.Native.Nat.{◌+◌, ◌*◌, ◌-◌}
-use mathlib.Core.Path.{◌≡◌, refl, sym, ◌∙◌}
-use mathlib.Core.Bool.{true, cond}
-use Rattle.console.specs.References.{is_digit, is_decimal, decimal_of}
-use native.Mathlib.Omega.{arith}
-use lib.ListN.{length, drop, get_or}
-use borrow.Author.Tests.{eq-eqb, ne_eqb}
-use Rattle.console.specs.ReferenceLaws.{spelled, digit_ge, spelled-turn, spelled-fails, spelled_end, spelled_high}
+use Rattle.std.proofs.Common.{◌≡◌, ◌≤◌, ◌+◌, ◌*◌, ◌-◌, get_or, drop, None, Some, sym, ◌∙◌, arith, eq-eqb}
+use Rattle.std.proofs.lemmas.Bool.{false≢true}
+use Rattle.console.specs.ReferenceLaws.{spelled, spelled-turn, spelled-fails, spelled_end, spelled_high, spelled_whole}
 use Rattle.console.proofs.references.decimal.Goals as goal
 
-pub returns-then-f-eq0 : goal.returns-then-f-eq0
-returns-then-f-eq0 c = rw (eq-eqb _ _ c.if-f-eq0.true) refl
+pub returns-then-not-is_ascii_digit : goal.returns-then-not-is_ascii_digit
+returns-then-not-is_ascii_digit c =
+    let f = c.args.f.now in
+    spelled_whole f None (λ z. false≢true (sym c.if-is_empty.false ∙ c.is_empty.ensures ∙ eq-eqb _ _ z))
+    (sym c.loop-x.invariant.spells ∙ spelled-fails c.loop-x.n f c.loop-x.x-index c.loop-x-test.true (sym c.is_ascii_digit.ensures.value ∙ c.if-not-is_ascii_digit.true))
 
-pub returns-then-not-digit : goal.returns-then-not-digit
-returns-then-not-digit c =
-    let e = sym c.digit.ensures ∙ c.if-not-digit.true in
-    sym (spelled-fails c.loop-i.n ((c.args.f.now)) c.loop-i.i c.loop-i-test.true e) ∙ c.loop-i.invariant.2 ∙ (let by_whole2 : spelled 0 ((c.args.f.now)) ≡ cond (is_decimal ((c.args.f.now))) (decimal_of ((c.args.f.now))) 4294967296 = sym (rw (ne_eqb (length ((c.args.f.now))) 0 c.if-f-eq0.false) refl) in by_whole2)
+pub returns-in_err-checked_mul : goal.returns-in_err-checked_mul
+returns-in_err-checked_mul c =
+    let f = c.args.f.now in
+    let x = get_or f c.loop-x.x-index 0 in
+    let turn : spelled c.loop-x.n (drop c.loop-x.x-index f) ≡ spelled (c.loop-x.n * 10 + (x - 48)) (drop (c.loop-x.x-index + 1) f) =
+    spelled-turn c.loop-x.n f c.loop-x.x-index c.loop-x-test.true (sym c.is_ascii_digit.ensures.value ∙ c.if-not-is_ascii_digit.false) in
+    let high : 4294967296 ≤ c.loop-x.n * 10 + (x - 48) = omega (arith, c.in_err-checked_mul.ensures) in
+    rw c.from_residual.ensures (spelled_whole f None (λ z. false≢true (sym c.if-is_empty.false ∙ c.is_empty.ensures ∙ eq-eqb _ _ z)) (sym c.loop-x.invariant.spells ∙ turn ∙ spelled_high (c.loop-x.n * 10 + (x - 48)) _ high))
 
-pub overflow_sub-n : goal.overflow_sub-n
-overflow_sub-n c =
-    omega (arith, c.wide.ensures, digit_ge (get_or ((c.args.f.now)) c.loop-i.i 0) ((let by_a_digit : is_digit (get_or ((c.args.f.now)) c.loop-i.i 0) ≡ true = sym c.digit.ensures ∙ c.if-not-digit.false in by_a_digit)))
+pub returns-in_err-n : goal.returns-in_err-n
+returns-in_err-n c =
+    let f = c.args.f.now in
+    let x = get_or f c.loop-x.x-index 0 in
+    let turn : spelled c.loop-x.n (drop c.loop-x.x-index f) ≡ spelled (c.loop-x.n * 10 + (x - 48)) (drop (c.loop-x.x-index + 1) f) =
+    spelled-turn c.loop-x.n f c.loop-x.x-index c.loop-x-test.true (sym c.is_ascii_digit.ensures.value ∙ c.if-not-is_ascii_digit.false) in
+    let high : 4294967296 ≤ c.loop-x.n * 10 + (x - 48) = omega (arith, c.in_ok-checked_mul.ensures.1, c.from.ensures, c.in_err-n.ensures) in
+    rw c.from_residual-in_err-n.ensures (spelled_whole f None (λ z. false≢true (sym c.if-is_empty.false ∙ c.is_empty.ensures ∙ eq-eqb _ _ z)) (sym c.loop-x.invariant.spells ∙ turn ∙ spelled_high (c.loop-x.n * 10 + (x - 48)) _ high))
 
-pub overflow_add-n : goal.overflow_add-n
-overflow_add-n c = omega (arith, c.wide.ensures, c.type_inv.f c.loop-i.i)
-
-pub returns-then-n-ge4294967296 : goal.returns-then-n-ge4294967296
-returns-then-n-ge4294967296 c =
-    sym (spelled_high (c.loop-i.n * 10 + (c.wide.result - 48)) (drop (c.loop-i.i + 1) ((c.args.f.now))) (omega arith)) ∙ (let by_turn3 : spelled (c.loop-i.n * 10 + (c.wide.result - 48)) (drop (c.loop-i.i + 1) ((c.args.f.now))) ≡ spelled 0 ((c.args.f.now)) = rw c.wide.ensures (sym (spelled-turn c.loop-i.n ((c.args.f.now)) c.loop-i.i c.loop-i-test.true ((let by_a_digit4 : is_digit (get_or ((c.args.f.now)) c.loop-i.i 0) ≡ true = sym c.digit.ensures ∙ c.if-not-digit.false in by_a_digit4))) ∙ c.loop-i.invariant.2) in by_turn3) ∙ (let by_whole2 : spelled 0 ((c.args.f.now)) ≡ cond (is_decimal ((c.args.f.now))) (decimal_of ((c.args.f.now))) 4294967296 = sym (rw (ne_eqb (length ((c.args.f.now))) 0 c.if-f-eq0.false) refl) in by_whole2)
-
-pub loop-i-preserved : goal.loop-i-preserved
-loop-i-preserved c = (omega arith, omega arith, (let by_turn : spelled (c.loop-i.n * 10 + (c.wide.result - 48)) (drop (c.loop-i.i + 1) ((c.args.f.now))) ≡ spelled 0 ((c.args.f.now)) = rw c.wide.ensures (sym (spelled-turn c.loop-i.n ((c.args.f.now)) c.loop-i.i c.loop-i-test.true ((let by_a_digit2 : is_digit (get_or ((c.args.f.now)) c.loop-i.i 0) ≡ true = sym c.digit.ensures ∙ c.if-not-digit.false in by_a_digit2))) ∙ c.loop-i.invariant.2) in by_turn))
+pub loop-x-preserved : goal.loop-x-preserved
+loop-x-preserved c =
+    let f = c.args.f.now in
+    let x = get_or f c.loop-x.x-index 0 in
+    let turn : spelled c.loop-x.n (drop c.loop-x.x-index f) ≡ spelled (c.loop-x.n * 10 + (x - 48)) (drop (c.loop-x.x-index + 1) f) =
+    spelled-turn c.loop-x.n f c.loop-x.x-index c.loop-x-test.true (sym c.is_ascii_digit.ensures.value ∙ c.if-not-is_ascii_digit.false) in
+    let e : c.in_ok-n.n ≡ c.loop-x.n * 10 + (x - 48) = omega (arith, c.in_ok-checked_mul.ensures.1, c.from.ensures, c.in_ok-n.ensures.1) in
+    record { fits = omega (arith, c.in_ok-n.ensures.0, c.in_ok-n.ensures.1); spells = rw e (sym turn ∙ c.loop-x.invariant.spells) }
 
 pub returns : goal.returns
 returns c =
-    sym (spelled_end c.loop-i.n ((c.args.f.now)) c.loop-i.i c.loop-i-test.false c.loop-i.invariant.1) ∙ c.loop-i.invariant.2 ∙ (let by_whole2 : spelled 0 ((c.args.f.now)) ≡ cond (is_decimal ((c.args.f.now))) (decimal_of ((c.args.f.now))) 4294967296 = sym (rw (ne_eqb (length ((c.args.f.now))) 0 c.if-f-eq0.false) refl) in by_whole2)
+    let f = c.args.f.now in
+    spelled_whole f (Some c.loop-x.n) (λ z. false≢true (sym c.if-is_empty.false ∙ c.is_empty.ensures ∙ eq-eqb _ _ z))
+    (sym c.loop-x.invariant.spells ∙ spelled_end c.loop-x.n f c.loop-x.x-index c.loop-x-test.false c.loop-x.invariant.fits)
