@@ -52,10 +52,10 @@ pub fn give(base: &[u8], e: Entry, found: Option<RecordNo>, area: &mut [u8]) -> 
     ensures { Ends (gave base.now e (number_of found) area.old) Done result.0 area.new base.now }
 {
     let Some(r) = found else {
-        return Reference::end();
+        return Reference::END;
     };
     areas::read_area(&Set::of(base, &e).record(r), area);
-    Reference::number(r)
+    r.into()
 }
 
 // A call that stores: its plan, and the reference that it returns where it is done.

@@ -152,5 +152,5 @@ pub fn rqloc(e: Entry, key: &[u8]) -> Reference
     ensures { (r : ℕ) (area b : List ℕ) → AnswersOn Rqloc e r key.now area b Done result.0 area b }
 {
     let k = Key::of(key);
-    Reference::number(k.home(e.records))
+    k.home(e.records).into()
 }

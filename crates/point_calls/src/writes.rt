@@ -72,7 +72,7 @@ pub fn add_at(
     let named = NamedPath { on: l.on, master };
     let paths = Paths::of(base, &l.entry, &all);
     let plan = paths.add(area, spot, named)?;
-    settle(base, l.entry, area, plan, Reference::number(plan.target))
+    settle(base, l.entry, area, plan, plan.target.into())
 }
 
 // ---- DELVD
@@ -84,7 +84,7 @@ fn or_link(p: Path, r: u32) -> Reference
     if r == 0 {
         return p.reference();
     }
-    Reference::number(RecordNo(r))
+    RecordNo(r).into()
 }
 
 // DELVD: the record leaves every path, and is wiped.

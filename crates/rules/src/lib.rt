@@ -49,7 +49,7 @@ fn sealed(s: &[u8]) -> bool
     requires { length s.now ≡ 512 }
     ensures { result ≡ is_sealed (check_by (edition_of s.now)) s.now 0 }
 {
-    blocks::sealed(s, BlockNo(0), Check::of(s[0]))
+    blocks::sealed(s, BlockNo(0), s[0].into())
 }
 
 // "Byte 0 is 1; byte 1 is M, master sets, 1..4; byte 2 is V, variable sets, 0..4; bytes 3..15 zero."

@@ -51,5 +51,5 @@ returns c =
     add-ends _ _ _ _ _ _ _ _ _ _ _
     (seen_as c.is_beside.ensures (seen _ _ _ _ _ _ _ c.seek.ensures c.of.ensures.0 c.in_ok-master.was))
     c.requires.spotted _ _ _
-    (λ t of. let w = rw c.in_ok-plan.was at (plan t of) in (rw c.in_ok-plan.was at (status t of), λ d. (w.0, c.number.ensures ∙ w.2)))
+    (λ t of. let w = rw c.in_ok-plan.was at (plan t of) in (rw c.in_ok-plan.was at (status t of), λ d. (w.0, c.into.ensures ∙ w.2)))
     (c.settle.ensures c.args.reference.0)
