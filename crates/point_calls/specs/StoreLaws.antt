@@ -180,10 +180,10 @@ add-ends e on p x all r key area b spot m g sp u xs after w v =
     record { told = λ t c i h at of. add-told t e on p x r key area b spot m g sp u xs after (w t of).0 (w t of).1 c i h at v }
 
 -- and where a test of the paths refuses
-pub add-refused : (why : Refusal) (e : Entry) (on : ℕ) (p : Path) (x : Entry) (all : List Entry) (r : ℕ) (key area b : List ℕ) (spot : Spot) (m : RecordNo)
+pub add-refused-ends : (why : Refusal) (e : Entry) (on : ℕ) (p : Path) (x : Entry) (all : List Entry) (r : ℕ) (key area b : List ℕ) (spot : Spot) (m : RecordNo)
     → Seen b e p x r key (is_beside spot) m → Spotted spot e p r
     → ((t : Schema) → MastersOf t e all → status_by why ≡ add_status b t e area spot on) → AnswersAmong (add_at spot) e on p x all r key area b (status_by why) r area b
-add-refused why e on p x all r key area b spot m g sp w =
+add-refused-ends why e on p x all r key area b spot m g sp w =
     add-ends e on p x all r key area b spot m g sp (status_by why) [] r (λ t of. (w t of, refusal_no_done why))
     (settled-err (check_by e.edition) (status_by why) b [] r r area why refl)
 

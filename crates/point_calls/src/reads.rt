@@ -16,7 +16,7 @@ use super::sight::seek;
 use ends::give;
 use masters::held::Masters;
 use point_plans::damage::uneven_ends;
-use point_plans::held::OnPath;
+use point_plans::held::PointsOn;
 use terms::{Key, RecordNo, Reference, Refusal};
 
 // READD: the referenced record.
@@ -51,7 +51,7 @@ fn pointer_on(base: &[u8], l: Located, m: RecordNo, r: u32, linked: bool, back: 
         }
         return master.first_on(l.path);
     }
-    let point = OnPath::of(base, &l.entry, l.path).record(RecordNo(r));
+    let point = PointsOn::of(base, &l.entry, l.path).record(RecordNo(r));
     if back {
         return point.prior_on(l.path);
     }
@@ -67,7 +67,7 @@ fn read_damaged(base: &[u8], l: Located, m: RecordNo, key: Key, linked: bool, n:
 {
     let master = Masters::of(base, &l.masters).at(m).record().bytes();
     let uneven = uneven_ends(master, l.path.link as usize);
-    let bad = OnPath::of(base, &l.entry, l.path).bad_neighbour(key, n);
+    let bad = PointsOn::of(base, &l.entry, l.path).bad_neighbour(key, n);
     (linked & uneven) | bad
 }
 

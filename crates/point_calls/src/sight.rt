@@ -7,7 +7,7 @@ ghost use Rattle.point_calls.specs.OnPath.{sighted_of};
 
 use super::Located;
 use masters::held::Masters;
-use point_plans::held::OnPath;
+use point_plans::held::PointsOn;
 use terms::{Key, RecordNo, Refusal};
 
 // "find the named master (16, then 12)", then 11 where the call looks at the referenced record.
@@ -21,7 +21,7 @@ pub fn seek(base: &[u8], l: Located, r: u32, key: Key, looks: bool) -> Result<Re
     if !looks {
         return Ok(m);
     }
-    if !OnPath::of(base, &l.entry, l.path).is_point(key, RecordNo(r)) {
+    if !PointsOn::of(base, &l.entry, l.path).is_point(key, RecordNo(r)) {
         return Err(Refusal::Ivrp);
     }
     Ok(m)

@@ -14,7 +14,7 @@ use super::sight::seek;
 use ends::settle;
 use plans::body_plan;
 use point_plans::NamedPath;
-use point_plans::held::{OnPath, Paths};
+use point_plans::held::{Paths, PointsOn};
 use points::Spot;
 use schema::{Entry, Path};
 use terms::{Key, RecordNo, Reference, Refusal};
@@ -103,7 +103,7 @@ pub fn delvd(
 {
     let master = seek(base, l, reference.0, Key::of(key), true)?;
     let r = RecordNo(reference.0);
-    let point = OnPath::of(base, &l.entry, l.path).record(r);
+    let point = PointsOn::of(base, &l.entry, l.path).record(r);
     let after = or_link(l.path, point.prior_on(l.path));
     let named = NamedPath { on: l.on, master };
     let paths = Paths::of(base, &l.entry, &all);

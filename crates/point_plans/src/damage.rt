@@ -8,7 +8,7 @@ ghost use Rattle.points.specs.Chains.{is_point_of, bad_neighbour};
 ghost use Rattle.point_plans.specs.Paths.{uneven_at, damaged_at, damaged};
 ghost use Rattle.point_plans.specs.Within.{OwnerIn, OwnersIn, KeysIn};
 
-use super::held::{OnPath, Points};
+use super::held::{Points, PointsOn};
 use records::Link;
 use schema::Part;
 use schema::layout::bytes_of;
@@ -24,7 +24,7 @@ pub fn uneven_ends(master: &[u8], link: usize) -> bool
     none_first ^ none_last
 }
 
-impl<'a> OnPath<'a> {
+impl<'a> PointsOn<'a> {
     // Is the record r live, and of that key on the path?
     pub fn is_point(&self, key: Key, r: RecordNo) -> bool
         requires len_value { key.len ≡ self.now.path.len }

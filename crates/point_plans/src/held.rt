@@ -13,7 +13,7 @@ use terms::RecordNo;
 
 // The points of a set on one path.
 #[derive(Clone, Copy)]
-pub struct OnPath<'a> {
+pub struct PointsOn<'a> {
     pub base: &'a [u8],
     pub entry: &'a Entry,
     pub path: Path,
@@ -39,14 +39,14 @@ pub struct Paths<'a> {
     ghost masters_in: { (k : ℕ) → k < entry.now.count → MastersIn (masters_kept masters.now k) (path_of entry.now k) (length base.now) },
 }
 
-impl<'a> OnPath<'a> {
+impl<'a> PointsOn<'a> {
     // The points of an entry, whose records lie in the data base, on a path whose fields lie in them.
-    pub fn of(base: &'a [u8], entry: &'a Entry, path: Path) -> OnPath<'a>
+    pub fn of(base: &'a [u8], entry: &'a Entry, path: Path) -> PointsOn<'a>
         requires lies_in { LiesIn entry.now (length base.now) }
         requires path_in { PathIn entry.now path }
         ensures { (result.base.now ≡ base.now) × (result.entry.now ≡ entry.now) × (result.path ≡ path) }
     {
-        OnPath { base, entry, path }
+        PointsOn { base, entry, path }
     }
 
     // The record of a number.
@@ -68,11 +68,11 @@ impl<'a> Points<'a> {
     }
 
     // Those on path k.
-    pub fn on(&self, k: usize) -> OnPath<'a>
+    pub fn on(&self, k: usize) -> PointsOn<'a>
         requires { k < self.now.entry.now.count }
         ensures { (result.base.now ≡ self.now.base.now) × (result.entry.now ≡ self.now.entry.now) × (result.path ≡ path_of self.now.entry.now k) }
     {
-        OnPath::of(self.base, self.entry, path_of(*self.entry, k))
+        PointsOn::of(self.base, self.entry, path_of(*self.entry, k))
     }
 
     // The set of their records.

@@ -9,14 +9,14 @@ ghost use Rattle.points.specs.Points.{spot_on, neighbours_at};
 ghost use Rattle.point_plans.specs.Paths.{own_links, new_links};
 ghost use Rattle.point_plans.specs.Within.{OwnerIn, OwnersIn, SpotIn};
 
-use super::held::{OnPath, Points};
+use super::held::{Points, PointsOn};
 use points::Spot;
 use records::Link;
 use schema::Part;
 use schema::layout::bytes_of;
 use terms::RecordNo;
 
-impl<'a> OnPath<'a> {
+impl<'a> PointsOn<'a> {
     // The neighbours of a record on the path.
     fn own_link(&self, r: RecordNo) -> Link
         requires { InSet self.now.entry.now r.0 }

@@ -2,7 +2,7 @@ use mathlib.Core.Path.{sym, ◌∙◌}
 use Rattle.std.proofs.lemmas.Result.{err_from_is_err_and}
 use Rattle.records.proofs.InBaseLaws.{reached-under, on-among, paths_in}
 use Rattle.point_calls.specs.SeekLaws.{seen, seen_as, by-seek-among}
-use Rattle.point_calls.specs.StoreLaws.{add-call, add-finds, add-refused, add-ends}
+use Rattle.point_calls.specs.StoreLaws.{add-call, add-finds, add-refused-ends, add-ends}
 use Rattle.point_calls.proofs.writes.add_at.Goals as goal
 
 pub seek-requires-clause-reached : goal.seek-requires-clause-reached
@@ -33,7 +33,7 @@ returns-in_err-plan c =
     let status = rw (c.of-paths.ensures.0, c.of-paths.ensures.1, c.of-paths.ensures.2) at c.add.ensures.status in
     let p = err_from_is_err_and c.from_residual-in_err-plan.result c.from_residual-in_err-plan.ensures.1 in
     rw (p.1, p.2)
-    (add-refused _ _ _ _ _ _ _ _ _ _ _ _
+    (add-refused-ends _ _ _ _ _ _ _ _ _ _ _ _
     (seen_as c.is_beside.ensures (seen _ _ _ _ _ _ _ c.seek.ensures c.of.ensures.0 c.in_ok-master.was))
     c.requires.spotted (λ t of. rw c.in_err-plan.was at (status t of)))
 

@@ -1,7 +1,7 @@
--- `point_plans::links::OnPath::neighbours_at` meets its contract, by the spot.
+-- `point_plans::held::PointsOn::neighbours_at` meets its contract, by the spot.
 use borrow.Author.Rules.{rules}
 use Rattle.points.specs.Points.{neighbours_at}
-use Rattle.point_plans.proofs.held.OnPath.neighbours_at.Goals as goal
+use Rattle.point_plans.proofs.held.PointsOn.neighbours_at.Goals as goal
 
 pub returns-in-Last : goal.returns-in-Last
 unfolding neighbours_at

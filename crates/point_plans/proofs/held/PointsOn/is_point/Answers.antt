@@ -1,8 +1,8 @@
--- `point_plans::damage::OnPath::is_point` meets its contract: both tests, joined.
+-- `point_plans::held::PointsOn::is_point` meets its contract: both tests, joined.
 use borrow.Author.Rules.{rules}
 use Rattle.terms.specs.Terms.{key_of}
 use Rattle.point_plans.specs.DamageLaws.{point-read}
-use Rattle.point_plans.proofs.held.OnPath.is_point.Goals as goal
+use Rattle.point_plans.proofs.held.PointsOn.is_point.Goals as goal
 
 pub returns : goal.returns
 returns c =
