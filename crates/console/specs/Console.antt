@@ -51,11 +51,6 @@ call_in line schema base =
 abbrev pub format_call : List ℕ → List ℕ → Call
 format_call schema base = call_of (text "FORMT") (text "    ") 0 (text "        ") [] own_area schema base
 
--- what the code tests before it looks at the fields
-pub record Six (line : List ℕ) : Type 0 where
-  pub short : length line ≤ 128
-  pub six : end_of line 5 ≡ length line
-
 -- ---- what is printed
 
 -- "prints line number, code, reference, and the area": one line
