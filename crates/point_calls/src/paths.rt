@@ -45,17 +45,10 @@ pub fn with_forms(
     requires { Fields l.entry × (l.on < l.entry.count) × (l.masters.key ≤ 16) }
     ensures { status_of result ≡ formed_on o l reference.0 key.now area.now }
 {
+    let e = l.entry;
+    let x = l.masters;
     let link = l.path.reference();
-    forms::form_status(
-        o,
-        l.entry,
-        l.on,
-        link.0,
-        l.masters.key,
-        reference.0,
-        key,
-        area,
-    )
+    forms::form_status(o, e, l.on, link.0, x.key, reference.0, key, area)
 }
 
 // The masters of every path of the points e: the adds and DELVD are handed these, and not the schema.

@@ -15,7 +15,7 @@ use ends::settle;
 use plans::body_plan;
 use point_plans::NamedPath;
 use point_plans::held::{Paths, PointsOn};
-use points::Spot;
+pub use points::Spot;
 use schema::{Entry, Path};
 use terms::{Key, RecordNo, Reference, Refusal};
 

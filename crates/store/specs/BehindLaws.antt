@@ -15,13 +15,12 @@ use Rattle.ends.specs.AsksLaws.{asks_its-base, asks_its-name, asks_as}
 use Rattle.ends.specs.Ends.{Ends}
 use Rattle.ends.specs.EndsLaws.{refused-ends}
 use Rattle.terms.specs.Laws.{not_done}
-use Rattle.ends.specs.Asks.{placed_status, past_general, placed_outcome, Answers}
+use Rattle.ends.specs.Asks.{Asks, placed_status, past_general, placed_outcome, Answers}
 use Rattle.master_calls.specs.Masters.{Places, AnswersOn, AnswersIn}
 use Rattle.master_calls.specs.declared.Placed.{Placed}
 use Rattle.records.specs.InBase.{MastersOf}
 use Rattle.point_calls.specs.declared.Located.{Located}
 use Rattle.point_calls.specs.OnPath.{Locates, AnswersOnPath, AnswersAmong}
-use Rattle.sweep.specs.declared.AnySet.{AnySet}
 use Rattle.sweep.specs.Swept.{Sweeps, SweptOn}
 use Rattle.store.specs.Decides.{AnswersNamed, AnswersUnder}
 
@@ -33,17 +32,17 @@ pub behind_placed : (t : Schema) (c : Call) → Done ≡ placed_status t c → p
 unfolding past_general placed_outcome
 behind_placed t c e = ap (answered (scene_under t c) c) (rw (← e) refl)
 
-module _ (t : Schema) (o : Operation) (n : List ℕ) (r : ℕ) (k a b : List ℕ) (p : Placed) (w : Places t o n r k a p) where
-  -- a test of the parameters refuses
-  pub set_refused : {s : Status} {q : ℕ} → 0 < status_number p.status → s ≡ p.status → q ≡ r → Answers t o n r k a b s q a b
-  set_refused l e f =
-      record { told = λ c h. rw (e, f, ← h.reference, ← h.area, ← h.base) (behind-refused t c p.status (w.status c (asks_its-base h)) l) }
+-- a test of the set or of the forms refuses
+pub refused_behind : (t : Schema) (o : Operation) (n : List ℕ) (r : ℕ) (k a b : List ℕ) {s : Status} → 0 < status_number s
+    → ((c : Call) → Asks c o n r k a c.base → s ≡ placed_status t c) → Answers t o n r k a b s r a b
+refused_behind t o n r k a b {s} l w =
+    record { told = λ c h. rw (← h.reference, ← h.area, ← h.base) (behind-refused t c s (w c (asks_its-base h)) l) }
 
-  -- it is carried out on its set
-  pub set_carried : {s : Status} {q : ℕ} {new after : List ℕ} → p.status ≡ Done
-      → AnswersIn t p.number.0 o p.entry r k a b s q new after → Answers t o n r k a b s q new after
-  set_carried d f =
-      record { told = λ c h. rw (behind_placed t c (sym d ∙ w.status c (asks_its-base h))) (f.told c (asks_its-name h) (w.on-set d c (asks_its-base h))) }
+-- it is carried out on its set
+pub set_carried : (t : Schema) (o : Operation) (n : List ℕ) (r : ℕ) (k a b : List ℕ) (p : Placed) {u : Status} → Places t o n r k a p u → u ≡ Done
+    → {s : Status} {q : ℕ} {new after : List ℕ} → AnswersIn t p.number.0 o p.entry r k a b s q new after → Answers t o n r k a b s q new after
+set_carried t o n r k a b p w d f =
+    record { told = λ c h. rw (behind_placed t c (sym d ∙ w.status c (asks_its-base h))) (f.told c (asks_its-name h) (w.on-set d c (asks_its-base h))) }
 
 -- ---- an operation that is known by another name
 
@@ -56,29 +55,26 @@ module _ (t : Schema) (n : ℕ) (u o : Operation) (w : u ≡ o) (e : Entry) (r :
 
 -- ---- RDNXT, on a set of either kind
 
-module _ (t : Schema) (n : List ℕ) (r : ℕ) (k a b : List ℕ) (p : AnySet) (w : Sweeps t n r k a p) where
-  pub sweep-refused : {s : Status} {q : ℕ} → 0 < status_number p.status → s ≡ p.status → q ≡ r → Answers t Rdnxt n r k a b s q a b
-  sweep-refused l e f =
-      record { told = λ c h. rw (e, f, ← h.reference, ← h.area, ← h.base) (behind-refused t c p.status (w.status c (asks_its-base h)) l) }
-
-  pub sweep_carried : {s : Status} {q : ℕ} {new after : List ℕ} → p.status ≡ Done → SweptOn p.entry r a b s q new after → Answers t Rdnxt n r k a b s q new after
-  sweep_carried d f =
-      record { told = λ c h. rw (behind_placed t c (sym d ∙ w.status c (asks_its-base h))) (f.told t c k (asks_its-name h) (w.on-set d c (asks_its-base h))) }
+pub sweep_carried : (t : Schema) (n : List ℕ) (r : ℕ) (k a b : List ℕ) (e : Entry) {u : Status} → Sweeps t n r k a e u → u ≡ Done
+    → {s : Status} {q : ℕ} {new after : List ℕ} → SweptOn e r a b s q new after → Answers t Rdnxt n r k a b s q new after
+sweep_carried t n r k a b e w d f =
+    record { told = λ c h. rw (behind_placed t c (sym d ∙ w.status c (asks_its-base h))) (f.told t c k (asks_its-name h) (w.on-set d c (asks_its-base h))) }
 
 -- ---- points
 
-module _ (t : Schema) (o : Operation) (n w : List ℕ) (r : ℕ) (k a b : List ℕ) (l : Located) (at : Locates t o n w r k a l) where
-  pub path_refused : {s : Status} {q : ℕ} → 0 < status_number l.status → s ≡ l.status → q ≡ r → AnswersNamed t o n w r k a b s q a b
-  path_refused g e f =
-      record { told = λ c h p. rw (e, f, ← h.reference, ← h.area, ← h.base) (behind-refused t c l.status (at.status c (asks_its-base h) p) g) }
+pub path_refused : (t : Schema) (o : Operation) (n w : List ℕ) (r : ℕ) (k a b : List ℕ) {s : Status} → 0 < status_number s
+    → ((c : Call) → Asks c o n r k a c.base → c.path ≡ w → s ≡ placed_status t c) → AnswersNamed t o n w r k a b s r a b
+path_refused t o n w r k a b {s} l f =
+    record { told = λ c h p. rw (← h.reference, ← h.area, ← h.base) (behind-refused t c s (f c (asks_its-base h) p) l) }
 
-  pub path_carried : {s : Status} {q : ℕ} {new after : List ℕ} → l.status ≡ Done → AnswersUnder t o l r k a b s q new after → AnswersNamed t o n w r k a b s q new after
-  path_carried d f =
-      record {
-        told = λ c h p.
-            rw (behind_placed t c (sym d ∙ at.status c (asks_its-base h) p))
-            (f.told c (asks_its-name h) (at.on-path d c (asks_its-base h) p));
-      }
+pub path_carried : (t : Schema) (o : Operation) (n w : List ℕ) (r : ℕ) (k a b : List ℕ) (l : Located) {u : Status} → Locates t o n w r k a l u → u ≡ Done
+    → {s : Status} {q : ℕ} {new after : List ℕ} → AnswersUnder t o l r k a b s q new after → AnswersNamed t o n w r k a b s q new after
+path_carried t o n w r k a b l at d f =
+    record {
+      told = λ c h p.
+          rw (behind_placed t c (sym d ∙ at.status c (asks_its-base h) p))
+          (f.told c (asks_its-name h) (at.on-path d c (asks_its-base h) p));
+    }
 
 module _ (t : Schema) (u o : Operation) (w : u ≡ o) (l : Located) (r : ℕ) (k a b : List ℕ) {s : Status} {q : ℕ} {new after : List ℕ} where
   pub along-path : AnswersOnPath o l.entry l.path l.masters r k a b s q new after → AnswersUnder t u l r k a b s q new after

@@ -37,11 +37,11 @@ pub enum Kind {
     Unknown,
 }
 
-impl OnMasters {
-    pub fn operation(self) -> Operation
-        ensures { result ≡ master_operation self }
-    {
-        match self {
+impl From<OnMasters> for Operation {
+    ghost from_gives = { λ m o. o ≡ master_operation m };
+
+    fn from(m: OnMasters) -> Operation {
+        match m {
             OnMasters::Add => Operation::AddM,
             OnMasters::Delete => Operation::DelM,
             OnMasters::Read => Operation::Readm,
@@ -51,11 +51,11 @@ impl OnMasters {
     }
 }
 
-impl OnPoints {
-    pub fn operation(self) -> Operation
-        ensures { result ≡ point_operation self }
-    {
-        match self {
+impl From<OnPoints> for Operation {
+    ghost from_gives = { λ p o. o ≡ point_operation p };
+
+    fn from(p: OnPoints) -> Operation {
+        match p {
             OnPoints::ReadNext => Operation::Readv,
             OnPoints::ReadPrior => Operation::Readr,
             OnPoints::Read => Operation::Readd,
@@ -68,10 +68,10 @@ impl OnPoints {
     }
 }
 
-impl Kind {
-    pub fn of(o: Operation) -> Kind
-        ensures { result ≡ operation_kind o }
-    {
+impl From<Operation> for Kind {
+    ghost from_gives = { λ o k. k ≡ operation_kind o };
+
+    fn from(o: Operation) -> Kind {
         match o {
             Operation::Formt => Kind::Format,
             Operation::Sinon => Kind::SignOn,

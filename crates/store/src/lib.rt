@@ -9,15 +9,17 @@ ghost use Rattle.calls.specs.Outcome.{IsOutcome};
 ghost use Rattle.calls.specs.Word.{upper_half, lower_half, IsWord};
 ghost use Rattle.records.specs.InBase.{Laid};
 ghost use Rattle.store.specs.Decides.{Decides};
+ghost use Rattle.terms.specs.Status.{status_of};
+ghost use Rattle.ends.specs.Ends.{reference_returned};
 
-use ends::{Answer, ended};
+use ends::Answer;
 use kinds::Kind;
 use on_any::on_any;
 use on_masters::on_masters;
 use on_points::on_points;
 use schema::Schema;
 use schema::layout::length_of;
-use terms::{Operation, Reference, Status};
+use terms::{Operation, Reference, Refusal};
 
 pub mod kinds;
 mod on_any;
@@ -25,14 +27,15 @@ mod on_masters;
 mod on_points;
 
 // SINON: "SINON only judges soundness."
-fn sign_on(t: Schema, reference: Reference, base: &[u8]) -> Answer
+fn sign_on(t: Schema, reference: Reference, base: &[u8]) -> Result<Reference, Refusal>
     requires { Laid t (length base.now) }
-    ensures { (result.status ≡ cond (sound t base.now) Done Damg) × (result.reference ≡ reference) }
+    ensures status { status_of result ≡ cond (sound t base.now) Done Damg }
+    ensures reference { reference_returned reference.0 result ≡ reference.0 }
 {
-    if signon::sign_on(base, t) {
-        return ended(Status::Done, reference);
+    if !signon::sign_on(base, t) {
+        return Err(Refusal::Damg);
     }
-    ended(Status::Damg, reference)
+    Ok(reference)
 }
 
 // A call under a schema that keeps the rules, on a base of its length.
@@ -45,22 +48,22 @@ fn perform(
     key: &[u8],
     area: &mut [u8],
     base: &mut [u8],
-) -> Answer
+) -> Result<Reference, Refusal>
     requires laid { Laid t (length base.old) }
     requires set_len { length set.now ≡ 4 }
-    ensures { Decides t o set.now reference.0 path.now key.now area.old base.old result.status result.reference.0 area.new base.new }
+    ensures { Decides t o set.now reference.0 path.now key.now area.old base.old (status_of result) (reference_returned reference.0 result) area.new base.new }
 {
-    let kind = Kind::of(o);
+    let kind = Kind::from(o);
     match kind {
         Kind::Format => {
             format::format(base, t.blocks);
-            ended(Status::Done, reference)
+            Ok(reference)
         }
         Kind::SignOn => sign_on(t, reference, base),
         Kind::Sweep => on_any(t, set, reference, key, area, base),
         Kind::Masters(m) => on_masters(t, m, set, reference, key, area, base),
         Kind::Points(p) => on_points(t, p, set, path, reference, key, area, base),
-        Kind::Unknown => ended(Status::Func, reference),
+        Kind::Unknown => Err(Refusal::Func),
     }
 }
 
@@ -74,13 +77,13 @@ fn under(
     key: &[u8],
     area: &mut [u8],
     base: &mut [u8],
-) -> Answer
+) -> Result<Reference, Refusal>
     requires laid { Laid t (512 * t.blocks) }
     requires set_len { length set.now ≡ 4 }
-    ensures { Decides t o set.now reference.0 path.now key.now area.old base.old result.status result.reference.0 area.new base.new }
+    ensures { Decides t o set.now reference.0 path.now key.now area.old base.old (status_of result) (reference_returned reference.0 result) area.new base.new }
 {
     if base.len() != length_of(t) {
-        return ended(Status::Size, reference);
+        return Err(Refusal::Size);
     }
     perform(t, o, set, reference, path, key, area, base)
 }
@@ -100,10 +103,13 @@ pub fn call(
     ensures { IsOutcome (call_of op.now set.now reference.0 path.now key.now area.old schema.now base.old) (record { status = result.status; reference = result.reference.0; area = area.new; base = base.new }) }
 {
     let Some(t) = decode::decode(schema) else {
-        return ended(Status::Schm, reference);
+        return Answer::of(Err(Refusal::Schm), reference);
     };
-    let o = Operation::of(op);
-    under(t, o, set, reference, path, key, area, base)
+    let o = Operation::from(op);
+    Answer::of(
+        under(t, o, set, reference, path, key, area, base),
+        reference,
+    )
 }
 
 // Status and reference as the two halves of one word, for C.
@@ -127,6 +133,5 @@ pub fn yarugota_call(
     ensures { IsWord (call_of op.now set.now reference path.now key.now area.old schema.now base.old) result area.new base.new }
 {
     let a = call(op, set, Reference(reference), path, key, area, schema, base);
-    let status = a.status;
-    one_word(status.number(), a.reference.0)
+    one_word(u32::from(a.status), a.reference.0)
 }

@@ -1,32 +1,36 @@
-use mathlib.Core.Path.{refl, sym, ap, ◌∙◌}
-use native.Mathlib.Omega.{arith}
-use Rattle.terms.specs.declared.Status.TheVariants.{Done}
-use Rattle.terms.specs.Laws.{status-number-one}
+use mathlib.Core.Path.{refl, sym, ◌∙◌}
+use Rattle.std.proofs.lemmas.Result.{err_from_is_err_and}
+use Rattle.terms.specs.Laws.{refusal-counts}
 use Rattle.sweep.specs.Swept.{Sweeps}
-use Rattle.sweep.specs.SweptLaws.{sweeps-set, swept-fields}
-use Rattle.store.specs.BehindLaws.{sweep-refused, sweep_carried}
+use Rattle.sweep.specs.SweptLaws.{sweep_unplaced, sweeps-set}
+use Rattle.terms.specs.declared.Status.TheVariants.{Done}
+use Rattle.store.specs.BehindLaws.{refused_behind, sweep_carried}
 use Rattle.store.proofs.on_any.on_any.Goals as goal
+use Rattle.store.proofs.on_any.on_any.Goals.{In_ok-with_forms}
 
-pub find_any-found-requires : goal.find_any-found-requires
-find_any-found-requires c =
-    record { laid = record { ok = c.requires.laid.ok; fields = c.requires.laid.fields; size = refl }; set_len = c.requires.set_len }
+pub returns-in_err-e : goal.returns-in_err-e
+returns-in_err-e c =
+    let p = err_from_is_err_and c.from_residual.result c.from_residual.ensures.1 in
+    rw (p.1, p.2) (refused_behind _ _ _ _ _ _ _ (refusal-counts _) (sweep_unplaced _ _ _ _ _ (sym c.find_any.ensures ∙ c.in_err-e.was)))
 
-pub with_forms-p-requires : goal.with_forms-p-requires
-with_forms-p-requires c = swept-fields _ _ c.requires.laid c.find_any-found.ensures
+pub returns-in_err-with_forms : goal.returns-in_err-with_forms
+returns-in_err-with_forms c =
+    let p = err_from_is_err_and c.from_residual-in_err-with_forms.result c.from_residual-in_err-with_forms.ensures.1 in
+    let laid = c.requires.laid in
+    rw (p.1, p.2)
+    (refused_behind _ _ _ _ _ _ _ (refusal-counts _)
+    (sweeps-set _ _ _ _ _ (record { ok = laid.ok; fields = laid.fields; size = refl }) (sym c.find_any.ensures ∙ c.in_ok-e.was) (rw c.in_err-with_forms.was at c.with_forms.ensures)).status)
 
-pub returns-then-number-ne0 : goal.returns-then-number-ne0
-returns-then-number-ne0 c =
-    let m = c.number.ensures in
-    sweep-refused _ _ _ _ _ _ _ ((let by_placed : (let a = c.args in Sweeps a.t a.set.now a.reference.0 a.key.now a.area.now c.with_forms-p.result) = let p = c.requires.laid in
-    sweeps-set _ _ _ _ _ (record { ok = p.ok; fields = p.fields; size = refl }) c.find_any-found.ensures c.with_forms-p.ensures in by_placed)) (omega (arith, c.if-number-ne0.true)) c.ended.ensures.0 (ap (λ r. r.0) c.ended.ensures.1)
+swept : (c : In_ok-with_forms) → Sweeps c.args.t c.args.set.now c.args.reference.0 c.args.key.now c.args.area.now c.in_ok-e.e Done
+swept c =
+    let laid = c.requires.laid in
+    sweeps-set _ _ _ _ _ (record { ok = laid.ok; fields = laid.fields; size = refl }) (sym c.find_any.ensures ∙ c.in_ok-e.was) (rw c.in_ok-with_forms.was at c.with_forms.ensures)
 
-pub rdnxt-requires : goal.rdnxt-requires
-rdnxt-requires c =
-    let k = ((let by_placed : (let a = c.args in Sweeps a.t a.set.now a.reference.0 a.key.now a.area.now c.with_forms-p.result) = let p = c.requires.laid in
-    sweeps-set _ _ _ _ _ (record { ok = p.ok; fields = p.fields; size = refl }) c.find_any-found.ensures c.with_forms-p.ensures in by_placed)).known (status-number-one _ Done (sym c.number.ensures ∙ c.if-number-ne0.false)) in
-    record { set = record { schema = c.args.t; set = rw c.requires.laid.size k.set }; reference_le_records = k.reference; area_len = k.area }
+pub rdnxt-requires-clause-reference_le_records : goal.rdnxt-requires-clause-reference_le_records
+rdnxt-requires-clause-reference_le_records c = ((swept (goal.at.rdnxt-requires-clause-reference_le_records c).In_ok-with_forms).known refl).reference
+
+pub rdnxt-requires-clause-area_len : goal.rdnxt-requires-clause-area_len
+rdnxt-requires-clause-area_len c = ((swept (goal.at.rdnxt-requires-clause-area_len c).In_ok-with_forms).known refl).area
 
 pub returns : goal.returns
-returns c =
-    sweep_carried _ _ _ _ _ _ _ ((let by_placed : (let a = c.args in Sweeps a.t a.set.now a.reference.0 a.key.now a.area.now c.with_forms-p.result) = let p = c.requires.laid in
-    sweeps-set _ _ _ _ _ (record { ok = p.ok; fields = p.fields; size = refl }) c.find_any-found.ensures c.with_forms-p.ensures in by_placed)) (status-number-one _ Done (sym c.number.ensures ∙ c.if-number-ne0.false)) c.rdnxt.ensures
+returns c = sweep_carried _ _ _ _ _ _ _ (swept (goal.at.returns c).In_ok-with_forms) refl c.rdnxt.ensures

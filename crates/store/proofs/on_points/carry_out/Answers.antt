@@ -5,6 +5,7 @@ use lib.ListN.{length}
 use Rattle.records.specs.InBase.{IsPathUnder, VariableIn}
 use Rattle.records.proofs.InBaseLaws.{of_a-schema, variable_in}
 use Rattle.point_calls.specs.PathLaws.{known_under, known_among}
+use Rattle.point_calls.specs.StoreLaws.{spotted_last, spotted_before, spotted_after}
 use Rattle.store.specs.Kinds.{point_operation}
 use Rattle.store.specs.BehindLaws.{along-path, along-paths}
 use Rattle.store.proofs.on_points.carry_out.Goals as goal
@@ -37,31 +38,31 @@ pub masters_of-requires : goal.masters_of-requires
 masters_of-requires c = (let by_paths : VariableIn c.args.t c.args.l.entry (512 * c.args.t.blocks) = let k = c.requires.path_known in
     rw k.here (variable_in _ (record { ok = c.requires.laid.ok; fields = c.requires.laid.fields; size = refl }) k.behind k.among) in by_paths)
 
-pub addvc-requires : goal.addvc-requires
-addvc-requires c =
+pub add_at-requires : goal.add_at-requires
+add_at-requires c =
     let k = c.requires.path_known in
     let q = c.in-AddLast.is in
-    record { path_among = known_among _ _ _ _ _ _ _ _ _ _ c.requires.laid k c.masters_of.ensures; key_len = k.key; area_len = k.area (rw q refl); on_value = k.same (rw q refl) }
+    record { path_among = known_among _ _ _ _ _ _ _ _ _ _ c.requires.laid k c.masters_of.ensures; key_len = k.key; area_len = k.area (rw q refl); on_value = k.same (rw q refl); spotted = spotted_last _ _ _ }
 
 pub masters_of-requires-in-AddBefore : goal.masters_of-requires-in-AddBefore
 masters_of-requires-in-AddBefore c = (let by_paths : VariableIn c.args.t c.args.l.entry (512 * c.args.t.blocks) = let k = c.requires.path_known in
     rw k.here (variable_in _ (record { ok = c.requires.laid.ok; fields = c.requires.laid.fields; size = refl }) k.behind k.among) in by_paths)
 
-pub addvb-requires : goal.addvb-requires
-addvb-requires c =
+pub add_at-requires-in-AddBefore : goal.add_at-requires-in-AddBefore
+add_at-requires-in-AddBefore c =
     let k = c.requires.path_known in
     let q = c.in-AddBefore.is in
-    record { path_among = known_among _ _ _ _ _ _ _ _ _ _ c.requires.laid k c.masters_of-in-AddBefore.ensures; key_len = k.key; area_len = k.area (rw q refl); on_value = k.same (rw q refl); in_set = k.number (rw q refl) }
+    record { path_among = known_among _ _ _ _ _ _ _ _ _ _ c.requires.laid k c.masters_of-in-AddBefore.ensures; key_len = k.key; area_len = k.area (rw q refl); on_value = k.same (rw q refl); spotted = spotted_before _ _ _ (k.number (rw q refl)) }
 
 pub masters_of-requires-in-AddAfter : goal.masters_of-requires-in-AddAfter
 masters_of-requires-in-AddAfter c = (let by_paths : VariableIn c.args.t c.args.l.entry (512 * c.args.t.blocks) = let k = c.requires.path_known in
     rw k.here (variable_in _ (record { ok = c.requires.laid.ok; fields = c.requires.laid.fields; size = refl }) k.behind k.among) in by_paths)
 
-pub addva-requires : goal.addva-requires
-addva-requires c =
+pub add_at-requires-in-AddAfter : goal.add_at-requires-in-AddAfter
+add_at-requires-in-AddAfter c =
     let k = c.requires.path_known in
     let q = c.in-AddAfter.is in
-    record { path_among = known_among _ _ _ _ _ _ _ _ _ _ c.requires.laid k c.masters_of-in-AddAfter.ensures; key_len = k.key; area_len = k.area (rw q refl); on_value = k.same (rw q refl); in_set = k.number (rw q refl) }
+    record { path_among = known_among _ _ _ _ _ _ _ _ _ _ c.requires.laid k c.masters_of-in-AddAfter.ensures; key_len = k.key; area_len = k.area (rw q refl); on_value = k.same (rw q refl); spotted = spotted_after _ _ _ (k.number (rw q refl)) }
 
 pub masters_of-requires-in-Delete : goal.masters_of-requires-in-Delete
 masters_of-requires-in-Delete c = (let by_paths : VariableIn c.args.t c.args.l.entry (512 * c.args.t.blocks) = let k = c.requires.path_known in
@@ -91,15 +92,15 @@ returns-in-Write c =
 
 pub returns-in-AddLast : goal.returns-in-AddLast
 returns-in-AddLast c =
-    along-paths _ _ _ (ap point_operation c.in-AddLast.is) _ _ _ _ _ c.masters_of.ensures c.addvc.ensures
+    along-paths _ _ _ (ap point_operation c.in-AddLast.is) _ _ _ _ _ c.masters_of.ensures c.add_at.ensures
 
 pub returns-in-AddBefore : goal.returns-in-AddBefore
 returns-in-AddBefore c =
-    along-paths _ _ _ (ap point_operation c.in-AddBefore.is) _ _ _ _ _ c.masters_of-in-AddBefore.ensures c.addvb.ensures
+    along-paths _ _ _ (ap point_operation c.in-AddBefore.is) _ _ _ _ _ c.masters_of-in-AddBefore.ensures c.add_at-in-AddBefore.ensures
 
 pub returns-in-AddAfter : goal.returns-in-AddAfter
 returns-in-AddAfter c =
-    along-paths _ _ _ (ap point_operation c.in-AddAfter.is) _ _ _ _ _ c.masters_of-in-AddAfter.ensures c.addva.ensures
+    along-paths _ _ _ (ap point_operation c.in-AddAfter.is) _ _ _ _ _ c.masters_of-in-AddAfter.ensures c.add_at-in-AddAfter.ensures
 
 pub returns-in-Delete : goal.returns-in-Delete
 returns-in-Delete c =
