@@ -31,9 +31,9 @@ module _ (b : List ℕ) (e : Entry) (r : ℕ) {h : ℕ} (eh : h ≡ own_home b e
   unfolding prior_ends
   prior_synonym m = rw (← eh, ← en, m) refl
 
-  pub prior-home : n ≡ false → {w : ℕ} → w ≡ root_prior b e r → eqb w 0 ≡ prior_ends b e r
+  pub prior_home : n ≡ false → {w : ℕ} → w ≡ root_prior b e r → eqb w 0 ≡ prior_ends b e r
   unfolding prior_ends
-  prior-home m d = rw (← eh, ← en, m, d) refl
+  prior_home m d = rw (← eh, ← en, m, d) refl
 
 -- ---- the master
 
@@ -48,10 +48,10 @@ module _ (b : List ℕ) (e : Entry) (r : ℕ) {key : List ℕ} (ek : key ≡ mas
     place_lost h = rw (← ek, ← es, keyed, ← ef, h) refl
 
     module _ (found : found_at f r ≡ true) {n : Bool} (en : n ≡ next_answers b e r) where
-      pub place-next : n ≡ false → n ≡ master_in_place b e r
+      pub place_next : n ≡ false → n ≡ master_in_place b e r
       unfolding master_in_place
-      place-next h = rw (← ek, ← es, keyed, ← ef, found, ← en, h) refl
+      place_next h = rw (← ek, ← es, keyed, ← ef, found, ← en, h) refl
 
-      pub place-prior : n ≡ true → {d : Bool} → d ≡ prior_ends b e r → d ≡ master_in_place b e r
+      pub place_prior : n ≡ true → {d : Bool} → d ≡ prior_ends b e r → d ≡ master_in_place b e r
       unfolding master_in_place
-      place-prior h q = rw (← ek, ← es, keyed, ← ef, found, ← en, h) q
+      place_prior h q = rw (← ek, ← es, keyed, ← ef, found, ← en, h) q

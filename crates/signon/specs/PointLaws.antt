@@ -119,12 +119,18 @@ module _ (b : List ℕ) (e : Entry) (p : Path) (x : Entry) (m : ℕ) {l : Bool} 
   unfolding ride_ends
   chain_broken h = rw (sym el ∙ live, none_if (path_ride b e p x m).ok _ h) refl
 
-  pub chain-some : {r : Ridden} → ridden_of (path_ride b e p x m) ≡ Some r → {z : ℕ} → z ≡ last_on b x m p
-      → cond (eqb r.last z) (Some r.count) None ≡ chain_points b e p x m
-  unfolding ride_ends
-  chain-some h ez =
-      let t = some_if (path_ride b e p x m).ok h in
-      rw (sym el ∙ live, t.0, ← ap (λ (q : Ridden). q.last) t.1, ← ap (λ (q : Ridden). q.count) t.1, ez) refl
+  module _ {r : Ridden} (h : ridden_of (path_ride b e p x m) ≡ Some r) {z : ℕ} (ez : z ≡ last_on b x m p) where
+    pub chain_whole : r.last ≡ z → Some r.count ≡ chain_points b e p x m
+    unfolding ride_ends
+    chain_whole w =
+        let t = some_if (path_ride b e p x m).ok h in
+        rw (sym el ∙ live, t.0, ap (λ (q : Ridden). q.last) t.1, ← ez, eq-eqb r.last z w) (ap (λ (q : Ridden). Some q.count) (sym t.1))
+
+    pub chain_short : (r.last ≡ z → ⊥) → None ≡ chain_points b e p x m
+    unfolding ride_ends
+    chain_short w =
+        let t = some_if (path_ride b e p x m).ok h in
+        rw (sym el ∙ live, t.0, ap (λ (q : Ridden). q.last) t.1, ← ez, ne_eqb r.last z w) refl
 
 -- ---- the chains of a path
 

@@ -10,6 +10,8 @@ ghost use Rattle.records.specs.InBase.{Laid, IsSetOf, VariableIn};
 ghost use Rattle.signon.specs.Judged.{set_placed};
 
 use clean::{checks_true, set_clean};
+use masters::held::Masters;
+use on_points::Chains;
 use records::held::Set;
 use schema::layout::{entry_of, path_of, sets};
 use schema::{Entry, Schema};
@@ -25,10 +27,11 @@ fn paths_in_place(base: &[u8], t: Schema, e: Entry) -> bool
 {
     (0..usize::from(e.count)).all(|j| {
         let p = path_of(e, j);
-        on_points::path_in_place(base, e, p, entry_of(t, p.master))
+        Chains::of(base, &e, p, &entry_of(t, p.master)).in_place()
     })
 }
 
+#[tactic(auto, using(crate::specs::SignOnLaws::set_dirty, crate::specs::SignOnLaws::set_masters, crate::specs::SignOnLaws::set_paths))]
 fn set_in_place(base: &[u8], t: Schema, e: Entry) -> bool
     requires { IsSetOf t e (length base.now) }
     ensures { result ≡ set_in_place t base.now e }
@@ -37,7 +40,7 @@ fn set_in_place(base: &[u8], t: Schema, e: Entry) -> bool
         return false;
     }
     if e.kind == 1 {
-        on_masters::masters_in_place(base, e)
+        on_masters::masters_in_place(&Masters::of(base, &e))
     } else {
         paths_in_place(base, t, e)
     }

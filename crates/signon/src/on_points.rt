@@ -2,12 +2,13 @@
 // records.
 ghost use Rattle.std.specs.Prelude.{◌≡◌, ◌≤◌, length};
 ghost use Rattle.terms.specs.Terms.{key_of};
-ghost use Rattle.schema.specs.Place.{InSet, LiesIn};
+ghost use Rattle.schema.specs.Place.{InSet};
 ghost use Rattle.sound.specs.Linear.{path_ride, live_count, path_in_place};
 ghost use Rattle.records.specs.InBase.{PathIn, Reached};
 ghost use Rattle.signon.specs.Judged.{ridden_of, in_order, ride_from, chain_points, path_points};
 
-use records::fields::{first_on, is_live, key_in, key_is, last_on, next_on, prior_on};
+use masters::held::Masters;
+use records::held::{Record, Set};
 use schema::{Entry, Path};
 use terms::{Key, RecordNo};
 
@@ -18,107 +19,146 @@ pub struct Ridden {
     pub last: u32,
 }
 
+// A path of a set of points, and the set whose masters its chains begin at.
+#[derive(Clone, Copy)]
+pub struct Chains<'a> {
+    pub base: &'a [u8],
+    pub entry: &'a Entry,
+    pub path: Path,
+    pub masters: &'a Entry,
+    ghost reached: { Reached entry.now path masters.now (length base.now) },
+}
+
 // Is the pointer a record of the set, live and of the key, that points back to the record before it?
-fn in_order(base: &[u8], e: Entry, p: Path, k: Key, prior: u32, at: u32) -> bool
-    requires lies_in { LiesIn e (length base.now) }
-    requires path_in { PathIn e p }
+#[tactic(auto, using(crate::specs::PointLaws::order_above, crate::specs::PointLaws::order_free, crate::specs::PointLaws::order_other, crate::specs::PointLaws::order_last))]
+fn in_order(set: &Set, p: Path, k: Key, prior: u32, at: u32) -> bool
+    requires path_in { PathIn set.now.entry.now p }
     requires len_value { k.len ≡ p.len }
     requires le_at { 1 ≤ at }
-    ensures { result ≡ in_order base.now e p (key_of k) prior at }
+    ensures { result ≡ in_order set.now.base.now set.now.entry.now p (key_of k) prior at }
 {
-    let r = RecordNo(at);
-    if e.records < at || !is_live(base, e, r) {
+    if set.entry.records < at {
         return false;
     }
-    key_is(base, e, r, usize::from(p.at), k) && prior_on(base, e, r, p) == prior
+    let record = set.record(RecordNo(at));
+    record.is_live() && record.key_is(usize::from(p.at), k) && record.prior_on(p) == prior
 }
 
 // Along the chain of a key, from its first record on to 0: None where a record is out of order, or where there are more than the set has, as in
 // a circle.
-fn ride(base: &[u8], e: Entry, p: Path, k: Key, first: u32) -> Option<Ridden>
-    requires lies_in { LiesIn e (length base.now) }
-    requires path_in { PathIn e p }
+fn ride(set: &Set, p: Path, k: Key, first: u32) -> Option<Ridden>
+    requires path_in { PathIn set.now.entry.now p }
     requires len_value { k.len ≡ p.len }
-    ensures { result ≡ ridden_of (ride_from e.records base.now e p (key_of k) 0 0 first) }
+    ensures { result ≡ ridden_of (ride_from set.now.entry.now.records set.now.base.now set.now.entry.now p (key_of k) 0 0 first) }
 {
     let mut count: u32 = 0;
     let mut last: u32 = 0;
     let mut at = first;
     while at != 0 {
-        if count == e.records {
+        if count == set.entry.records {
             return None; // a circle
         }
-        if !in_order(base, e, p, k, last, at) {
+        if !in_order(set, p, k, last, at) {
             return None;
         }
         last = at;
-        at = next_on(base, e, RecordNo(at), p);
+        at = set.record(RecordNo(at)).next_on(p);
         count += 1;
     }
     Some(Ridden { count, last })
 }
 
-// The chain of the master in record m of set x.
-fn path_ride(base: &[u8], e: Entry, p: Path, x: Entry, m: RecordNo) -> Option<Ridden>
-    requires reached { Reached e p x (length base.now) }
-    requires in_set { InSet x m.0 }
-    ensures { result ≡ ridden_of (path_ride base.now e p x m.0) }
-{
-    let k = key_in(base, x, m, 12, usize::from(x.key));
-    ride(base, e, p, k, first_on(base, x, m, p))
-}
-
-// How many points a record's chain has: 0 of a record that is no master; None of a master whose chain is out of order, or ends not at its last.
-fn chain_of(base: &[u8], e: Entry, p: Path, x: Entry, m: RecordNo) -> Option<u32>
-    requires reached { Reached e p x (length base.now) }
-    requires in_set { InSet x m.0 }
-    ensures { result ≡ chain_points base.now e p x m.0 }
-{
-    if !is_live(base, x, m) {
-        return Some(0);
-    }
-    let r = path_ride(base, e, p, x, m)?;
-    if r.last == last_on(base, x, m, p) {
-        Some(r.count)
-    } else {
-        None
-    }
-}
-
 // How many live records a set has.
-fn live_count(base: &[u8], e: Entry) -> u32
-    requires lies_in { LiesIn e (length base.now) }
-    requires le_size { 1 ≤ e.size }
-    ensures { result ≡ live_count base.now e }
+fn live_count(set: &Set) -> u32
+    ensures { result ≡ live_count set.now.base.now set.now.entry.now }
 {
     let mut count: u32 = 0;
-    for k in 0..e.records {
-        if is_live(base, e, RecordNo(k + 1)) {
+    for k in 0..set.entry.records {
+        if set.record(RecordNo(k + 1)).is_live() {
             count += 1;
         }
     }
     count
 }
 
-// How many points the chains of a path have; None where one of them is out of order.
-fn points_met(base: &[u8], e: Entry, p: Path, x: Entry) -> Option<u32>
-    requires { Reached e p x (length base.now) }
-    ensures { result ≡ path_points base.now e p x }
-{
-    let mut met: u32 = 0;
-    for k in 0..x.records {
-        met += chain_of(base, e, p, x, RecordNo(k + 1))?;
+impl<'a> Chains<'a> {
+    // The chains of a path, whose points and masters lie in the data base.
+    pub fn of(base: &'a [u8], entry: &'a Entry, path: Path, masters: &'a Entry) -> Chains<'a>
+        requires { Reached entry.now path masters.now (length base.now) }
+        ensures points { (result.base.now ≡ base.now) × (result.entry.now ≡ entry.now) × (result.path ≡ path) }
+        ensures masters { result.masters.now ≡ masters.now }
+    {
+        Chains {
+            base,
+            entry,
+            path,
+            masters,
+        }
     }
-    Some(met)
-}
 
-// Every chain of the path is in order, and together they have as many points as the set has live records: so none of these is on no chain.
-pub fn path_in_place(base: &[u8], e: Entry, p: Path, x: Entry) -> bool
-    requires { Reached e p x (length base.now) }
-    ensures { result ≡ path_in_place base.now e p x }
-{
-    match points_met(base, e, p, x) {
-        Some(met) => met == live_count(base, e),
-        None => false,
+    // The set of the points.
+    fn points(&self) -> Set<'a>
+        ensures { (result.base.now ≡ self.now.base.now) × (result.entry.now ≡ self.now.entry.now) }
+    {
+        Set::of(self.base, self.entry)
+    }
+
+    // The record of a number among the masters.
+    fn master(&self, m: RecordNo) -> Record<'a>
+        requires { InSet self.now.masters.now m.0 }
+        ensures { (result.base.now ≡ self.now.base.now) × (result.entry.now ≡ self.now.masters.now) × (result.number.0 ≡ m.0) }
+    {
+        Masters::of(self.base, self.masters).at(m).record()
+    }
+
+    // The chain of the master in record m.
+    fn path_ride(&self, m: RecordNo) -> Option<Ridden>
+        requires { InSet self.now.masters.now m.0 }
+        ensures { result ≡ ridden_of (path_ride self.now.base.now self.now.entry.now self.now.path self.now.masters.now m.0) }
+    {
+        let master = self.master(m);
+        let k = master.key(12, usize::from(self.masters.key));
+        ride(&self.points(), self.path, k, master.first_on(self.path))
+    }
+
+    // How many points a record's chain has: 0 of a record that is no master; None of a master whose chain is out of order, or ends not at its
+    // last.
+    #[tactic(auto, using(crate::specs::PointLaws::chain_broken, crate::specs::PointLaws::chain_whole, crate::specs::PointLaws::chain_short))]
+    fn chain_of(&self, m: RecordNo) -> Option<u32>
+        requires { InSet self.now.masters.now m.0 }
+        ensures { result ≡ chain_points self.now.base.now self.now.entry.now self.now.path self.now.masters.now m.0 }
+    {
+        let master = self.master(m);
+        if !master.is_live() {
+            return Some(0);
+        }
+        let r = self.path_ride(m)?;
+        if r.last == master.last_on(self.path) {
+            Some(r.count)
+        } else {
+            None
+        }
+    }
+
+    // How many points the chains have; None where one of them is out of order.
+    fn points_met(&self) -> Option<u32>
+        ensures { result ≡ path_points self.now.base.now self.now.entry.now self.now.path self.now.masters.now }
+    {
+        let mut met: u32 = 0;
+        for k in 0..self.masters.records {
+            met += self.chain_of(RecordNo(k + 1))?;
+        }
+        Some(met)
+    }
+
+    // Every chain is in order, and together they have as many points as the set has live records: so none of these is on no chain.
+    #[tactic(auto, using(crate::specs::PointLaws::path_none, crate::specs::PointLaws::path_sum))]
+    pub fn in_place(&self) -> bool
+        ensures { result ≡ path_in_place self.now.base.now self.now.entry.now self.now.path self.now.masters.now }
+    {
+        match self.points_met() {
+            Some(met) => met == live_count(&self.points()),
+            None => false,
+        }
     }
 }

@@ -11,6 +11,6 @@ use Rattle.signon.proofs.on_masters.masters_in_place.Goals as goal
 pub returns : goal.returns
 unfolding masters_in_place
 returns c =
-    let f : ℕ → Bool = λ k. in_place_at c.args.base.now c.args.e (k + 1) in
-    let n = c.args.e.records in
+    let f : ℕ → Bool = λ k. in_place_at c.args.masters.now.base.now c.args.masters.now.entry.now (k + 1) in
+    let n = c.args.masters.now.entry.now.records in
     all_from_yields_List f _ _ _ c.all.ensures.ran (YieldsList-from_range 0 n n refl (omega arith)) (λ x b q k. search (rules, tests)) ∙ list_all-below f n

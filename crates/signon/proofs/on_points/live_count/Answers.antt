@@ -1,4 +1,4 @@
-use Rattle.std.proofs.Common.{refl, arith}
+use Rattle.std.proofs.Common.{rules, refl, arith}
 use Rattle.octets.specs.Below.{count_below}
 use Rattle.signon.specs.PointLaws.{live_hit, live_miss, live_end}
 use Rattle.signon.proofs.on_points.live_count.Goals as goal
@@ -12,11 +12,11 @@ pub loop-k-preserved : goal.loop-k-preserved
 loop-k-preserved c =
     let a = c.args in
     elim c.if-is_live.branch [
-      | then-is_live w ↦ (live_hit a.base.now a.e c.loop-k.k c.is_live.ensures c.loop-k.invariant.0 w.if-is_live.true w.count-is, omega arith)
-      | else-is_live w ↦ (live_miss a.base.now a.e c.loop-k.k c.is_live.ensures c.loop-k.invariant.0 w.if-is_live.false w.count-is, omega arith)
+      | then-is_live w ↦ (live_hit a.set.now.base.now a.set.now.entry.now c.loop-k.k (search rules) c.loop-k.invariant.0 w.if-is_live.true w.count-is, omega arith)
+      | else-is_live w ↦ (live_miss a.set.now.base.now a.set.now.entry.now c.loop-k.k (search rules) c.loop-k.invariant.0 w.if-is_live.false w.count-is, omega arith)
     ]
 
 pub returns : goal.returns
 returns c =
     let a = c.args in
-    live_end a.base.now a.e c.loop-k.k (omega arith) (omega arith) c.loop-k.invariant.0
+    live_end a.set.now.base.now a.set.now.entry.now c.loop-k.k (omega arith) (omega arith) c.loop-k.invariant.0

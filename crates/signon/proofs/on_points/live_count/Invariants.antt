@@ -5,4 +5,4 @@ use Rattle.signon.specs.PointLaws.{live_at}
 use Rattle.signon.proofs.on_points.live_count.Given as goal
 
 abbrev pub invariant-loop-k : goal.invariant-loop-k
-invariant-loop-k l = (l.count ≡ count_below (live_at l.base l.e) l.k) × (l.count ≤ l.k)
+invariant-loop-k l = (l.count ≡ count_below (live_at l.set.base.now l.set.entry.now) l.k) × (l.count ≤ l.k)

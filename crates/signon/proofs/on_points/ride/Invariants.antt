@@ -7,8 +7,8 @@ use Rattle.signon.proofs.on_points.ride.Given as goal
 
 abbrev pub invariant-loop-at : goal.invariant-loop-at
 invariant-loop-at l =
-    (l.count ≤ l.e.records)
-    × (ride_from (l.e.records - l.count) l.base l.e l.p (key_of l.k) l.count l.last l.at ≡ ride_from l.e.records l.base l.e l.p (key_of l.k) 0 0 l.first)
+    (l.count ≤ l.set.entry.now.records)
+    × (ride_from (l.set.entry.now.records - l.count) l.set.base.now l.set.entry.now l.p (key_of l.k) l.count l.last l.at ≡ ride_from l.set.entry.now.records l.set.base.now l.set.entry.now l.p (key_of l.k) 0 0 l.first)
 
 abbrev pub decreases-loop-at : goal.decreases-loop-at
-decreases-loop-at l = l.e.records - l.count
+decreases-loop-at l = l.set.entry.now.records - l.count
