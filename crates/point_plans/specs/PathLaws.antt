@@ -22,7 +22,6 @@ use Rattle.schema.specs.declared.Path.{Path}
 use Rattle.schema.specs.declared.Entry.{Entry}
 use Rattle.schema.specs.declared.Part.{Part}
 use Rattle.records.specs.declared.Link.{Link}
-use Rattle.records.specs.Records.{prior_on, next_on}
 use Rattle.masters.specs.declared.Found.{Found}
 use Rattle.masters.specs.declared.Found.TheVariants.{At, Missing, Damaged}
 use Rattle.masters.specs.Find.{find}
@@ -74,10 +73,6 @@ spot_other spot on k h = rw (ne_eqb k on h)
 
 pub new-link : {l : Link} {p q : Path} {s u : Spot} {z w : ℕ} (b : List ℕ) (e : Entry) → q ≡ p → z ≡ w → s ≡ u → l ≡ neighbours_at b e q z s → l ≡ neighbours_at b e p w u
 new-link b e f g h i = rw (i, f, g, h)
-
-pub own-link : {l : Link} {p q : Path} (b : List ℕ) (e : Entry) (r : ℕ) → q ≡ p → l ≡ record { prior = prior_on b e r q; next = next_on b e r q }
-    → l ≡ record { prior = prior_on b e r p; next = next_on b e r p }
-own-link b e r f i = rw (i, f)
 
 -- ---- statuses
 

@@ -1,16 +1,13 @@
 // The final 16 of the calls on points, path by path: uneven ends, and neighbours that are none of the chain's.
 ghost use Rattle.std.specs.Prelude.{◌≡◌, ◌+◌, ◌≤◌, ◌<◌, length};
-ghost use Rattle.octets.specs.Octets.{run};
 ghost use Rattle.terms.specs.Terms.{key_of};
 ghost use Rattle.schema.specs.Decode.{path_of};
-ghost use Rattle.schema.specs.Place.{InSet, bytes_of};
+ghost use Rattle.schema.specs.Place.{InSet};
 ghost use Rattle.points.specs.Chains.{is_point_of, bad_neighbour};
-ghost use Rattle.point_plans.specs.Paths.{uneven_at, damaged_at, damaged};
-ghost use Rattle.point_plans.specs.Within.{OwnerIn, OwnersIn, KeysIn};
+ghost use Rattle.point_plans.specs.Paths.{uneven_at, key_at, master_at, damaged_at, damaged};
 
-use super::held::{Points, PointsOn};
+use super::held::{OwnedPoint, PointsOn};
 use records::Link;
-use schema::Part;
 use schema::layout::bytes_of;
 use terms::{Key, RecordNo};
 
@@ -64,31 +61,21 @@ impl<'a> PointsOn<'a> {
     }
 }
 
-impl<'a> Points<'a> {
-    // The same on path k, whose key stands at `from` of src, and whose master is the part `owner`.
-    fn damaged_on(&self, src: &[u8], from: usize, owner: Part, link: Link, k: usize) -> bool
-        requires k_lt_count { k < self.now.entry.now.count }
-        requires k_in_bounds { from + (path_of self.now.entry.now k).len ≤ length src.now }
-        requires owner_in { OwnerIn (path_of self.now.entry.now k) owner (length self.now.base.now) }
-        ensures { result ≡ damaged_at self.now.base.now self.now.entry.now (path_of self.now.entry.now k) (run src.now from (path_of self.now.entry.now k).len) (bytes_of self.now.base.now owner) link }
+impl<'a> OwnedPoint<'a> {
+    // The same on path k.
+    fn damaged_on(&self, link: Link, k: usize) -> bool
+        requires { k < self.now.entry.now.count }
+        ensures { result ≡ damaged_at self.now.base.now self.now.entry.now (path_of self.now.entry.now k) (key_at self.now.src.now self.now.entry.now self.now.at k) (master_at self.now.base.now self.now.owners k) link }
     {
         let on = self.on(k);
-        let key = Key::part(src, from, on.path.len as usize);
-        on.damaged_at(key, bytes_of(self.base, owner), link)
+        let key = Key::part(self.src, self.at[k], on.path.len as usize);
+        on.damaged_at(key, bytes_of(self.base, self.owners[k]), link)
     }
 
     // The same on any path.
-    pub fn any_damaged(
-        &self,
-        src: &[u8],
-        at: [usize; 4],
-        owners: [Part; 4],
-        links: [Link; 4],
-    ) -> bool
-        requires keys_in { KeysIn self.now.entry.now at (length src.now) }
-        requires owners_in { OwnersIn self.now.entry.now owners (length self.now.base.now) }
-        ensures { result ≡ damaged self.now.base.now self.now.entry.now src.now at owners links }
+    pub fn any_damaged(&self, links: [Link; 4]) -> bool
+        ensures { result ≡ damaged self.now.base.now self.now.entry.now self.now.src.now self.now.at self.now.owners links }
     {
-        (0..self.entry.count as usize).any(|k| self.damaged_on(src, at[k], owners[k], links[k], k))
+        (0..self.entry.count as usize).any(|k| self.damaged_on(links[k], k))
     }
 }

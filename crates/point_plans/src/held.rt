@@ -1,14 +1,15 @@
-// The points of a set as a data base holds them: on one path, on every path, and with the masters of each. That the records lie in the data base,
-// and the paths' fields in the records, are facts of the types.
+// The points of a set as a data base holds them: on one path, with the masters of every path, and one point with its own masters. That the records
+// lie in the data base, and the paths' fields in the records, are facts of the types.
 ghost use Rattle.std.specs.Prelude.{ℕ, ◌≡◌, ◌+◌, ◌≤◌, ◌<◌, length};
 ghost use Rattle.schema.specs.Decode.{path_of};
 ghost use Rattle.schema.specs.Place.{InSet, LiesIn};
 ghost use Rattle.records.specs.InBase.{masters_kept, MastersIn, PointsIn, PathIn};
+ghost use Rattle.point_plans.specs.Within.{KeysIn, OwnersIn};
 
 use masters::held::Masters;
 use records::held::{Record, Set};
 use schema::layout::path_of;
-use schema::{Entry, Path};
+use schema::{Entry, Part, Path};
 use terms::RecordNo;
 
 // The points of a set on one path.
@@ -21,14 +22,6 @@ pub struct PointsOn<'a> {
     ghost path_in: { PathIn entry.now path },
 }
 
-// The points of a set on all its paths.
-#[derive(Clone, Copy)]
-pub struct Points<'a> {
-    pub base: &'a [u8],
-    pub entry: &'a Entry,
-    ghost points_in: { PointsIn entry.now (length base.now) },
-}
-
 // The paths of a set of points: the points, and the masters of each path.
 #[derive(Clone, Copy)]
 pub struct Paths<'a> {
@@ -37,6 +30,20 @@ pub struct Paths<'a> {
     pub masters: &'a [Entry; 4],
     ghost points_in: { PointsIn entry.now (length base.now) },
     ghost masters_in: { (k : ℕ) → k < entry.now.count → MastersIn (masters_kept masters.now k) (path_of entry.now k) (length base.now) },
+}
+
+// A point on every path, once the masters of its keys are found: where the keys stand in a buffer, the area in an add and the record's part in
+// DELVD, and where the masters lie.
+#[derive(Clone, Copy)]
+pub struct OwnedPoint<'a> {
+    pub base: &'a [u8],
+    pub entry: &'a Entry,
+    pub src: &'a [u8],
+    pub at: [usize; 4],
+    pub owners: [Part; 4],
+    ghost points_in: { PointsIn entry.now (length base.now) },
+    ghost keys_in: { KeysIn entry.now at (length src.now) },
+    ghost owners_in: { OwnersIn entry.now owners (length base.now) },
 }
 
 impl<'a> PointsOn<'a> {
@@ -58,31 +65,6 @@ impl<'a> PointsOn<'a> {
     }
 }
 
-impl<'a> Points<'a> {
-    // The points of an entry.
-    pub fn of(base: &'a [u8], entry: &'a Entry) -> Points<'a>
-        requires { PointsIn entry.now (length base.now) }
-        ensures { (result.base.now ≡ base.now) × (result.entry.now ≡ entry.now) }
-    {
-        Points { base, entry }
-    }
-
-    // Those on path k.
-    pub fn on(&self, k: usize) -> PointsOn<'a>
-        requires { k < self.now.entry.now.count }
-        ensures { (result.base.now ≡ self.now.base.now) × (result.entry.now ≡ self.now.entry.now) × (result.path ≡ path_of self.now.entry.now k) }
-    {
-        PointsOn::of(self.base, self.entry, path_of(*self.entry, k))
-    }
-
-    // The set of their records.
-    pub fn set(&self) -> Set<'a>
-        ensures { (result.base.now ≡ self.now.base.now) × (result.entry.now ≡ self.now.entry.now) }
-    {
-        Set::of(self.base, self.entry)
-    }
-}
-
 impl<'a> Paths<'a> {
     // The points of an entry, and the masters of each of their paths.
     pub fn of(base: &'a [u8], entry: &'a Entry, masters: &'a [Entry; 4]) -> Paths<'a>
@@ -97,11 +79,11 @@ impl<'a> Paths<'a> {
         }
     }
 
-    // The points by themselves.
-    pub fn points(&self) -> Points<'a>
+    // The set of their records.
+    pub fn set(&self) -> Set<'a>
         ensures { (result.base.now ≡ self.now.base.now) × (result.entry.now ≡ self.now.entry.now) }
     {
-        Points::of(self.base, self.entry)
+        Set::of(self.base, self.entry)
     }
 
     // The masters of path k.
@@ -110,5 +92,22 @@ impl<'a> Paths<'a> {
         ensures { (result.base.now ≡ self.now.base.now) × (result.entry.now ≡ masters_kept self.now.masters.now k) }
     {
         Masters::of(self.base, &self.masters[k])
+    }
+}
+
+impl<'a> OwnedPoint<'a> {
+    // Its set.
+    pub fn set(&self) -> Set<'a>
+        ensures { (result.base.now ≡ self.now.base.now) × (result.entry.now ≡ self.now.entry.now) }
+    {
+        Set::of(self.base, self.entry)
+    }
+
+    // The points on path k.
+    pub fn on(&self, k: usize) -> PointsOn<'a>
+        requires { k < self.now.entry.now.count }
+        ensures { (result.base.now ≡ self.now.base.now) × (result.entry.now ≡ self.now.entry.now) × (result.path ≡ path_of self.now.entry.now k) }
+    {
+        PointsOn::of(self.base, self.entry, path_of(*self.entry, k))
     }
 }

@@ -19,16 +19,15 @@ ghost use Rattle.scan.specs.Scan.{is_full};
 ghost use Rattle.points.specs.Points.{new_place, add_place, add_stores, del_stores};
 ghost use Rattle.point_plans.specs.Rest.{add_status, del_status};
 ghost use Rattle.point_plans.specs.Paths.{own_links, new_links, place_at, both_on, damaged};
-ghost use Rattle.point_plans.specs.Within.{OwnersIn, KeysIn, LinksIn, SpotIn};
-ghost use Rattle.records.specs.InBase.{masters_kept, MastersOf, PointsIn};
+ghost use Rattle.point_plans.specs.Within.{LinksIn, SpotIn};
+ghost use Rattle.records.specs.InBase.{masters_kept, MastersOf};
 ghost use Rattle.point_plans.specs.Plans.{Built};
 
-use held::{Paths, Points};
+use held::{OwnedPoint, Paths};
 use plans::{Head, Plan};
 use points::Spot;
 use records::Link;
 use scan::lowest_free_in;
-use schema::{Entry, Part};
 use terms::{RecordNo, Refusal};
 
 pub mod damage;
@@ -44,33 +43,7 @@ pub struct NamedPath {
     pub master: RecordNo,
 }
 
-// The plan of an add, for the record that it takes.
-fn linked_plan(e: Entry, owners: [Part; 4], links: [Link; 4], r: RecordNo) -> Plan
-    requires points_in { PointsIn e 2097152 }
-    requires owners_in { OwnersIn e owners 2097152 }
-    requires links_in { LinksIn e links }
-    ensures { Built e owners (take e.count links) (both_on e r.0) Variable r.0 0 result }
-{
-    let both = Link {
-        prior: r.0,
-        next: r.0,
-    };
-    let plan = Plan::of(Head::Variable, r, RecordNo(0), links);
-    sides::with_sides(plan, e, owners, links, [both; 4])
-}
-
-// The plan of DELVD of the record r.
-fn unlinked_plan(e: Entry, owners: [Part; 4], links: [Link; 4], r: RecordNo) -> Plan
-    requires points_in { PointsIn e 2097152 }
-    requires owners_in { OwnersIn e owners 2097152 }
-    requires links_in { LinksIn e links }
-    ensures { Built e owners (take e.count links) (take e.count links) Nothing r.0 r.0 result }
-{
-    let plan = Plan::of(Head::Nothing, r, RecordNo(0), links);
-    sides::with_sides(plan, e, owners, links, links).with_wiped(r)
-}
-
-impl<'a> Points<'a> {
+impl<'a> OwnedPoint<'a> {
     // The number of a new record, if the set is not full. Its prior neighbour on the named path is not tested yet, and has no say in it.
     fn new_place(&self, prior: u32) -> Option<RecordNo>
         ensures { result ≡ record_up_to self.now.entry.now.records (new_place self.now.base.now self.now.entry.now prior) }
@@ -78,49 +51,54 @@ impl<'a> Points<'a> {
         lowest_free_in(&self.set())
     }
 
-    // The rest of an add, once every path's master is found: "15; 16".
-    fn add_known(
-        &self,
-        area: &[u8],
-        at: [usize; 4],
-        owners: [Part; 4],
-        spot: Spot,
-        on: usize,
-    ) -> Result<Plan, Refusal>
-        requires keys_in { KeysIn self.now.entry.now at (length area.now) }
-        requires owners_in { OwnersIn self.now.entry.now owners (length self.now.base.now) }
-        requires spot_in { SpotIn spot self.now.entry.now }
-        requires on_lt_count { on < self.now.entry.now.count }
-        ensures status { status_of result ≡ cond (is_full self.now.base.now self.now.entry.now) Full (cond (damaged self.now.base.now self.now.entry.now area.now at owners (new_links self.now.base.now self.now.entry.now owners spot on)) Damg Done) }
-        ensures built { IfOk result (Built self.now.entry.now owners (new_links self.now.base.now self.now.entry.now owners spot on) (both_on self.now.entry.now (place_at self.now.base.now self.now.entry.now owners spot on)) Variable (place_at self.now.base.now self.now.entry.now owners spot on) 0) }
+    // The plan of an add, for the record that it takes.
+    fn linked_plan(&self, links: [Link; 4], r: RecordNo) -> Plan
+        requires { LinksIn self.now.entry.now links }
+        ensures { Built self.now.entry.now self.now.owners (take self.now.entry.now.count links) (both_on self.now.entry.now r.0) Variable r.0 0 result }
     {
-        let links = self.new_links(owners, spot, on);
-        let place = self.new_place(links[on].prior).ok_or(Refusal::Full)?;
-        if self.any_damaged(area, at, owners, links) {
-            return Err(Refusal::Damg);
-        }
-        Ok(linked_plan(*self.entry, owners, links, place))
+        let both = Link {
+            prior: r.0,
+            next: r.0,
+        };
+        let plan = Plan::of(Head::Variable, r, RecordNo(0), links);
+        self.with_sides(plan, links, [both; 4])
     }
 
-    // The rest of DELVD of the record r, whose keys stand at `at` of its part.
-    fn delete_known(
-        &self,
-        r: RecordNo,
-        part: &[u8],
-        at: [usize; 4],
-        owners: [Part; 4],
-    ) -> Result<Plan, Refusal>
-        requires keys_in { KeysIn self.now.entry.now at (length part.now) }
-        requires owners_in { OwnersIn self.now.entry.now owners (length self.now.base.now) }
-        requires in_set { InSet self.now.entry.now r.0 }
-        ensures status { status_of result ≡ cond (damaged self.now.base.now self.now.entry.now part.now at owners (own_links self.now.base.now self.now.entry.now r.0)) Damg Done }
-        ensures built { IfOk result (Built self.now.entry.now owners (own_links self.now.base.now self.now.entry.now r.0) (own_links self.now.base.now self.now.entry.now r.0) Nothing r.0 r.0) }
+    // The plan of DELVD of the record r.
+    fn unlinked_plan(&self, links: [Link; 4], r: RecordNo) -> Plan
+        requires { LinksIn self.now.entry.now links }
+        ensures { Built self.now.entry.now self.now.owners (take self.now.entry.now.count links) (take self.now.entry.now.count links) Nothing r.0 r.0 result }
     {
-        let links = self.own_links(r);
-        if self.any_damaged(part, at, owners, links) {
+        let plan = Plan::of(Head::Nothing, r, RecordNo(0), links);
+        self.with_sides(plan, links, links).with_wiped(r)
+    }
+
+    // The rest of an add: "15; 16".
+    fn add(&self, spot: Spot, on: usize) -> Result<Plan, Refusal>
+        requires spot_in { SpotIn spot self.now.entry.now }
+        requires on_lt_count { on < self.now.entry.now.count }
+        ensures status { status_of result ≡ cond (is_full self.now.base.now self.now.entry.now) Full (cond (damaged self.now.base.now self.now.entry.now self.now.src.now self.now.at self.now.owners (new_links self.now.base.now self.now.entry.now self.now.owners spot on)) Damg Done) }
+        ensures built { IfOk result (Built self.now.entry.now self.now.owners (new_links self.now.base.now self.now.entry.now self.now.owners spot on) (both_on self.now.entry.now (place_at self.now.base.now self.now.entry.now self.now.owners spot on)) Variable (place_at self.now.base.now self.now.entry.now self.now.owners spot on) 0) }
+    {
+        let links = self.new_links(spot, on);
+        let place = self.new_place(links[on].prior).ok_or(Refusal::Full)?;
+        if self.any_damaged(links) {
             return Err(Refusal::Damg);
         }
-        Ok(unlinked_plan(*self.entry, owners, links, r))
+        Ok(self.linked_plan(links, place))
+    }
+
+    // The rest of DELVD of the record r, whose part the keys stand in.
+    fn delete(&self, r: RecordNo) -> Result<Plan, Refusal>
+        requires { InSet self.now.entry.now r.0 }
+        ensures status { status_of result ≡ cond (damaged self.now.base.now self.now.entry.now self.now.src.now self.now.at self.now.owners (own_links self.now.base.now self.now.entry.now r.0)) Damg Done }
+        ensures built { IfOk result (Built self.now.entry.now self.now.owners (own_links self.now.base.now self.now.entry.now r.0) (own_links self.now.base.now self.now.entry.now r.0) Nothing r.0 r.0) }
+    {
+        let links = self.own_links(r);
+        if self.any_damaged(links) {
+            return Err(Refusal::Damg);
+        }
+        Ok(self.unlinked_plan(links, r))
     }
 }
 
@@ -136,7 +114,14 @@ impl<'a> Paths<'a> {
     {
         let at = search::area_places(*self.entry);
         let owners = self.all_owners(area, at, named, Refusal::Mrnf)?;
-        self.points().add_known(area, at, owners, spot, named.on)
+        let point = OwnedPoint {
+            base: self.base,
+            entry: self.entry,
+            src: area,
+            at,
+            owners,
+        };
+        point.add(spot, named.on)
     }
 
     // DELVD of the record r, once it and the named path's master are known.
@@ -147,10 +132,16 @@ impl<'a> Paths<'a> {
         ensures status { (t : Schema) → MastersOf t self.now.entry.now self.now.masters.now → status_of result ≡ del_status self.now.base.now t self.now.entry.now r.0 named.on }
         ensures plan { (t : Schema) → MastersOf t self.now.entry.now self.now.masters.now → IfOk result (λ plan. ((area : List ℕ) → plan_stores self.now.base.now self.now.entry.now area plan ≡ del_stores self.now.base.now t self.now.entry.now r.0) × PlanOk (length self.now.base.now) self.now.entry.now plan × (plan.head ≡ Nothing)) }
     {
-        let points = self.points();
-        let part = points.set().record(r).bytes();
+        let part = self.set().record(r).bytes();
         let at = search::record_places(*self.entry);
         let owners = self.all_owners(part, at, named, Refusal::Damg)?;
-        points.delete_known(r, part, at, owners)
+        let point = OwnedPoint {
+            base: self.base,
+            entry: self.entry,
+            src: part,
+            at,
+            owners,
+        };
+        point.delete(r)
     }
 }

@@ -2,17 +2,16 @@
 ghost use Rattle.std.specs.Prelude.{◌≡◌, ◌+◌, ◌<◌, length, take, drop, replicate};
 ghost use Rattle.octets.specs.Octets.{word_at};
 ghost use Rattle.schema.specs.Decode.{path_of};
-ghost use Rattle.schema.specs.Place.{InSet, bytes_of};
+ghost use Rattle.schema.specs.Place.{InSet};
 ghost use Rattle.records.specs.Records.{prior_on, next_on};
 ghost use Rattle.records.specs.Areas.{no_link};
 ghost use Rattle.points.specs.Points.{spot_on, neighbours_at};
-ghost use Rattle.point_plans.specs.Paths.{own_links, new_links};
-ghost use Rattle.point_plans.specs.Within.{OwnerIn, OwnersIn, SpotIn};
+ghost use Rattle.point_plans.specs.Paths.{master_at, own_links, new_links};
+ghost use Rattle.point_plans.specs.Within.{SpotIn};
 
-use super::held::{Points, PointsOn};
+use super::held::{OwnedPoint, PointsOn};
 use points::Spot;
 use records::Link;
-use schema::Part;
 use schema::layout::bytes_of;
 use terms::RecordNo;
 
@@ -47,7 +46,7 @@ impl<'a> PointsOn<'a> {
     }
 }
 
-impl<'a> Points<'a> {
+impl<'a> OwnedPoint<'a> {
     // The neighbours of a record on every path.
     pub fn own_links(&self, r: RecordNo) -> [Link; 4]
         requires { InSet self.now.entry.now r.0 }
@@ -61,16 +60,14 @@ impl<'a> Points<'a> {
         links
     }
 
-    // "ADDVA and ADDVB link after or before the reference on the named path, last on the others." This is path k; its master is the part
-    // `owner`.
-    fn new_link(&self, owner: Part, spot: Spot, named: usize, k: usize) -> Link
+    // "ADDVA and ADDVB link after or before the reference on the named path, last on the others." This is path k.
+    fn new_link(&self, spot: Spot, named: usize, k: usize) -> Link
         requires spot_in { SpotIn spot self.now.entry.now }
         requires k_lt_count { k < self.now.entry.now.count }
-        requires owner_in { OwnerIn (path_of self.now.entry.now k) owner (length self.now.base.now) }
-        ensures { result ≡ neighbours_at self.now.base.now self.now.entry.now (path_of self.now.entry.now k) (word_at (bytes_of self.now.base.now owner) ((path_of self.now.entry.now k).link + 4)) (spot_on spot named k) }
+        ensures { result ≡ neighbours_at self.now.base.now self.now.entry.now (path_of self.now.entry.now k) (word_at (master_at self.now.base.now self.now.owners k) ((path_of self.now.entry.now k).link + 4)) (spot_on spot named k) }
     {
         let on = self.on(k);
-        let master = bytes_of(self.base, owner);
+        let master = bytes_of(self.base, self.owners[k]);
         let last = octets::word(master, on.path.link as usize + 4);
         if k == named {
             return on.neighbours_at(last, spot);
@@ -79,15 +76,14 @@ impl<'a> Points<'a> {
     }
 
     // The neighbours of a new record on every path.
-    pub fn new_links(&self, owners: [Part; 4], spot: Spot, named: usize) -> [Link; 4]
-        requires owners_in { OwnersIn self.now.entry.now owners (length self.now.base.now) }
+    pub fn new_links(&self, spot: Spot, named: usize) -> [Link; 4]
         requires spot_in { SpotIn spot self.now.entry.now }
-        ensures result_value { take self.now.entry.now.count result ≡ new_links self.now.base.now self.now.entry.now owners spot named }
+        ensures result_value { take self.now.entry.now.count result ≡ new_links self.now.base.now self.now.entry.now self.now.owners spot named }
         ensures result_value_2 { drop self.now.entry.now.count result ≡ drop self.now.entry.now.count (replicate 4 no_link) }
     {
         let mut links = [Link { prior: 0, next: 0 }; 4];
         for k in 0..self.entry.count as usize {
-            links[k] = self.new_link(owners[k], spot, named, k);
+            links[k] = self.new_link(spot, named, k);
         }
         links
     }

@@ -85,19 +85,17 @@ pub returns-in_err-owners-clause-plan : goal.returns-in_err-owners-clause-plan
 returns-in_err-owners-clause-plan c =
     λ t of. IfOk-from_err c.from_residual.result _ c.from_residual.ensures.0
 
-pub add_known-requires : goal.add_known-requires
-add_known-requires c =
+pub invariant_of-point : goal.invariant_of-point
+invariant_of-point c =
     let a = c.args in
     let at = c.area_places-at.result in
     let kept = c.area_places-at.ensures.result_value in
     let o = c.in_ok-owners.ensures in
     let owners = c.in_ok-owners.owners in record {
-      keys_in = rw c.points.ensures.1 (area_keys_in at a.area.now c.args.self.now.points_in c.requires.area_len (places a.self.now.entry.now at kept));
-      owners_in = rw (c.points.ensures.0, c.points.ensures.1)
-          (owners_in a.self.now.base.now (masters_kept a.self.now.masters.now) a.self.now.entry.now (area_key_on a.self.now.entry.now a.area.now) owners
-          (known a.self.now.base.now a.self.now.entry.now a.self.now.masters.now a.area.now at a.named.on a.named.master owners kept o.status c.args.self.now.points_in c.args.self.now.masters_in c.requires.on_value o.found));
-      spot_in = rw c.points.ensures.1 c.requires.spot_in;
-      on_lt_count = rw c.points.ensures.1 c.requires.on_lt_count;
+      points_in = c.args.self.now.points_in;
+      keys_in = area_keys_in at a.area.now c.args.self.now.points_in c.requires.area_len (places a.self.now.entry.now at kept);
+      owners_in = owners_in a.self.now.base.now (masters_kept a.self.now.masters.now) a.self.now.entry.now (area_key_on a.self.now.entry.now a.area.now) owners
+          (known a.self.now.base.now a.self.now.entry.now a.self.now.masters.now a.area.now at a.named.on a.named.master owners kept o.status c.args.self.now.points_in c.args.self.now.masters_in c.requires.on_value o.found);
     }
 
 pub returns : goal.returns
@@ -107,13 +105,11 @@ returns c =
     let kept = c.area_places-at.ensures.result_value in
     let o = c.in_ok-owners.ensures in
     let owners = c.in_ok-owners.owners in
-    let status = rw (c.points.ensures.0, c.points.ensures.1) at c.add_known.ensures.status in
-    let built = rw (c.points.ensures.0, c.points.ensures.1) at c.add_known.ensures.built in
     let held = known a.self.now.base.now a.self.now.entry.now a.self.now.masters.now a.area.now at a.named.on a.named.master owners kept o.status c.args.self.now.points_in c.args.self.now.masters_in c.requires.on_value o.found in record {
       status = λ t of.
           add-answer a.self.now.base.now t a.self.now.entry.now a.area.now a.spot a.named.on owners (known-by-schema a.self.now.base.now t a.self.now.entry.now a.self.now.masters.now (area_key_on a.self.now.entry.now a.area.now) owners of held)
-          at (places a.self.now.entry.now at kept) (sym (others_under a.self.now.base.now a.self.now.entry.now a.self.now.masters.now a.area.now at a.named.on Done kept o.status t of)) status;
+          at (places a.self.now.entry.now at kept) (sym (others_under a.self.now.base.now a.self.now.entry.now a.self.now.masters.now a.area.now at a.named.on Done kept o.status t of)) c.add.ensures.status;
       plan = λ t of.
           add-plan a.self.now.base.now t a.self.now.entry.now a.area.now a.spot a.named.on owners (known-by-schema a.self.now.base.now t a.self.now.entry.now a.self.now.masters.now (area_key_on a.self.now.entry.now a.area.now) owners of held)
-          at c.add_known.result c.requires.on_lt_count status built;
+          at c.add.result c.requires.on_lt_count c.add.ensures.status c.add.ensures.built;
     }

@@ -106,8 +106,8 @@ pub returns-in_err-owners-clause-plan : goal.returns-in_err-owners-clause-plan
 returns-in_err-owners-clause-plan c =
     λ t of. IfOk-from_err c.from_residual.result _ c.from_residual.ensures.0
 
-pub delete_known-requires : goal.delete_known-requires
-delete_known-requires c =
+pub invariant_of-point : goal.invariant_of-point
+invariant_of-point c =
     let a = c.args in
     let part = c.bytes-part.result.now in
     let read : part ≡ record_of a.self.now.base.now a.self.now.entry.now a.r.0 = search rules in
@@ -117,11 +117,10 @@ delete_known-requires c =
     let same = keys a.self.now.base.now a.self.now.entry.now a.r.0 part at read points kept in
     let o = c.in_ok-owners.ensures in
     let owners = c.in_ok-owners.owners in record {
-      keys_in = rw c.points-points.ensures.1 (inside a.self.now.base.now a.self.now.entry.now a.r.0 part at read points c.requires.in_set kept);
-      owners_in = rw (c.points-points.ensures.0, c.points-points.ensures.1)
-          (owners_in a.self.now.base.now (masters_kept a.self.now.masters.now) a.self.now.entry.now (own a.self.now.base.now a.self.now.entry.now a.r.0) owners
-          (known a.self.now.base.now a.self.now.entry.now a.self.now.masters.now a.r.0 part at a.named.on a.named.master owners same o.status c.args.self.now.points_in c.args.self.now.masters_in c.requires.on_value o.found));
-      in_set = rw c.points-points.ensures.1 c.requires.in_set;
+      points_in = c.args.self.now.points_in;
+      keys_in = inside a.self.now.base.now a.self.now.entry.now a.r.0 part at read points c.requires.in_set kept;
+      owners_in = owners_in a.self.now.base.now (masters_kept a.self.now.masters.now) a.self.now.entry.now (own a.self.now.base.now a.self.now.entry.now a.r.0) owners
+          (known a.self.now.base.now a.self.now.entry.now a.self.now.masters.now a.r.0 part at a.named.on a.named.master owners same o.status c.args.self.now.points_in c.args.self.now.masters_in c.requires.on_value o.found);
     }
 
 pub returns : goal.returns
@@ -134,15 +133,14 @@ returns c =
     let same = keys a.self.now.base.now a.self.now.entry.now a.r.0 part at read c.args.self.now.points_in kept in
     let o = c.in_ok-owners.ensures in
     let owners = c.in_ok-owners.owners in
-    let built = rw (c.points-points.ensures.0, c.points-points.ensures.1) at c.delete_known.ensures.built in
     let held = known a.self.now.base.now a.self.now.entry.now a.self.now.masters.now a.r.0 part at a.named.on a.named.master owners same o.status c.args.self.now.points_in c.args.self.now.masters_in c.requires.on_value o.found in
     -- what was asked of the keys in the part
-    let asked : status_of c.delete_known.result ≡ cond (damaged a.self.now.base.now a.self.now.entry.now (record_of a.self.now.base.now a.self.now.entry.now a.r.0) at owners (own_links a.self.now.base.now a.self.now.entry.now a.r.0)) Damg Done
-    = (rw (c.points-points.ensures.0, c.points-points.ensures.1) at c.delete_known.ensures.status)
+    let asked : status_of c.delete.result ≡ cond (damaged a.self.now.base.now a.self.now.entry.now (record_of a.self.now.base.now a.self.now.entry.now a.r.0) at owners (own_links a.self.now.base.now a.self.now.entry.now a.r.0)) Damg Done
+    = c.delete.ensures.status
     ∙ ap (λ (part : List ℕ). cond (damaged a.self.now.base.now a.self.now.entry.now part at owners (own_links a.self.now.base.now a.self.now.entry.now a.r.0)) Damg Done) read in record {
       status = λ t of.
           del_answer a.self.now.base.now t a.self.now.entry.now a.r.0 owners (known-by-schema a.self.now.base.now t a.self.now.entry.now a.self.now.masters.now (own a.self.now.base.now a.self.now.entry.now a.r.0) owners of held) at a.named.on (places a.self.now.entry.now at kept)
           (sym (others_under a.self.now.base.now a.self.now.entry.now a.self.now.masters.now a.r.0 part at a.named.on Done same o.status t of)) asked;
       plan = λ t of.
-          del_plan a.self.now.base.now t a.self.now.entry.now a.r.0 owners (known-by-schema a.self.now.base.now t a.self.now.entry.now a.self.now.masters.now (own a.self.now.base.now a.self.now.entry.now a.r.0) owners of held) at c.delete_known.result c.requires.in_set asked built;
+          del_plan a.self.now.base.now t a.self.now.entry.now a.r.0 owners (known-by-schema a.self.now.base.now t a.self.now.entry.now a.self.now.masters.now (own a.self.now.base.now a.self.now.entry.now a.r.0) owners of held) at c.delete.result c.requires.in_set asked c.delete.ensures.built;
     }

@@ -1,4 +1,4 @@
--- `point_plans::held::PointsOn::is_point` meets its contract: both tests, joined.
+-- `point_plans::damage::PointsOn::is_point` meets its contract: both tests, joined.
 use borrow.Author.Rules.{rules}
 use Rattle.terms.specs.Terms.{key_of}
 use Rattle.point_plans.specs.DamageLaws.{point-read}

@@ -1,4 +1,4 @@
--- `point_plans::held::PointsOn::neighbours_at` meets its contract, by the spot.
+-- `point_plans::links::PointsOn::neighbours_at` meets its contract, by the spot.
 use borrow.Author.Rules.{rules}
 use Rattle.points.specs.Points.{neighbours_at}
 use Rattle.point_plans.proofs.held.PointsOn.neighbours_at.Goals as goal

@@ -1,4 +1,4 @@
--- `point_plans::damage::Points::any_damaged` meets its contract: damage is met on some path, or on none.
+-- `point_plans::damage::OwnedPoint::any_damaged` meets its contract: damage is met on some path, or on none.
 use Rattle.std.proofs.Common.{◌≡◌, ℕ, ◌<◌, Bool, true, false, not, List, length, get_or, MatchBool, refl, sym, ap, ◌∙◌, zero-add, arith, rules, tests}
 use Rattle.std.specs.List.{HoldsAt, AllWithin, range_with_len}
 use Rattle.std.proofs.lemmas.Iterator.{cases_from_any, YieldsList-from_range}
@@ -11,7 +11,7 @@ use Rattle.records.specs.declared.Link.{Link}
 use Rattle.records.specs.Areas.{no_link}
 use Rattle.point_plans.specs.Paths.{master_at, key_at, damaged_at, clean_at, damaged}
 use Rattle.point_plans.specs.DamageLaws.{damaged-here, damaged-nowhere}
-use Rattle.point_plans.proofs.held.Points.any_damaged.Goals as goal
+use Rattle.point_plans.proofs.held.OwnedPoint.any_damaged.Goals as goal
 
 module _ (b : List ℕ) (e : Entry) (src at : List ℕ) (owners : List Part) (links : List Link) where
   abbrev damage_on : ℕ → Bool
@@ -36,6 +36,6 @@ module _ (b : List ℕ) (e : Entry) (src at : List ℕ) (owners : List Part) (li
 pub returns : goal.returns
 returns c =
     let a = c.args in
-    some_or_none a.self.now.base.now a.self.now.entry.now a.src.now a.at a.owners a.links c.any.result
-    (cases_from_any _ _ _ (λ k. true ≡ damage_on a.self.now.base.now a.self.now.entry.now a.src.now a.at a.owners a.links k) (λ k. false ≡ damage_on a.self.now.base.now a.self.now.entry.now a.src.now a.at a.owners a.links k) c.any.ensures.ran
+    some_or_none a.self.now.base.now a.self.now.entry.now a.self.now.src.now a.self.now.at a.self.now.owners a.links c.any.result
+    (cases_from_any _ _ _ (λ k. true ≡ damage_on a.self.now.base.now a.self.now.entry.now a.self.now.src.now a.self.now.at a.self.now.owners a.links k) (λ k. false ≡ damage_on a.self.now.base.now a.self.now.entry.now a.self.now.src.now a.self.now.at a.self.now.owners a.links k) c.any.ensures.ran
     (YieldsList-from_range 0 a.self.now.entry.now.count a.self.now.entry.now.count refl (omega arith)) (λ x q k. search (rules, tests)) (λ x q k. search (rules, tests)))

@@ -1,4 +1,4 @@
--- `point_plans::Points::add_known` meets its contract: full, damaged, or a plan.
+-- `point_plans::OwnedPoint::add` meets its contract: full, damaged, or a plan.
 use mathlib.Core.Path.{◌≡◌, refl, sym, ap, ◌∙◌}
 use mathlib.Core.List.{List}
 use Prim.Native.Nat.{ℕ}
@@ -18,11 +18,9 @@ use Rattle.points.specs.Points.{new_place}
 use Rattle.points.specs.PlaceLaws.{new_place-full}
 use Rattle.point_plans.specs.Paths.{link_at}
 use Rattle.point_plans.specs.PathLaws.{filled_at}
-use Rattle.point_plans.specs.WithinLaws.{owners_most}
-use Rattle.records.proofs.InBaseLaws.{points_most}
 use Rattle.point_plans.specs.DamageLaws.{damaged-kept, links_in}
 use Rattle.point_plans.specs.PlanLaws.{linked-same}
-use Rattle.point_plans.proofs.held.Points.add_known.Goals as goal
+use Rattle.point_plans.proofs.held.OwnedPoint.add.Goals as goal
 
 -- there is no place in a full set, and one in a set that is not
 module _ (b : List ℕ) (e : Entry) (p : ℕ) where
@@ -47,13 +45,13 @@ returns-then-any_damaged-clause-status c =
     let some : Some c.in_ok-place.place ≡ c.new_place.result = grind arith in
     rw (
       (some_place a.self.now.base.now a.self.now.entry.now _ (some ∙ c.new_place.ensures)).1,
-      damaged-kept a.self.now.base.now a.self.now.entry.now a.area.now a.at a.owners _ c.any_damaged.ensures c.new_links-links.ensures.result_value ∙ c.if-any_damaged.true,
+      damaged-kept a.self.now.base.now a.self.now.entry.now a.self.now.src.now a.self.now.at a.self.now.owners _ c.any_damaged.ensures c.new_links-links.ensures.result_value ∙ c.if-any_damaged.true,
     ) refl
 
 pub linked_plan-requires : goal.linked_plan-requires
 linked_plan-requires c =
     let a = c.args in
-    record { points_in = points_most c.args.self.now.points_in; owners_in = owners_most a.owners c.args.self.now.points_in.lies c.requires.owners_in; links_in = links_in a.self.now.base.now a.self.now.entry.now a.area.now a.at a.owners _ (sym c.any_damaged.ensures ∙ c.if-any_damaged.false) }
+    links_in a.self.now.base.now a.self.now.entry.now a.self.now.src.now a.self.now.at a.self.now.owners _ (sym c.any_damaged.ensures ∙ c.if-any_damaged.false)
 
 pub returns : goal.returns
 returns c =
@@ -62,8 +60,8 @@ returns c =
     let some : Some c.in_ok-place.place ≡ c.new_place.result = grind arith in
     let place = some_place a.self.now.base.now a.self.now.entry.now _ (some ∙ c.new_place.ensures) in
     record {
-      status = rw (place.1, damaged-kept a.self.now.base.now a.self.now.entry.now a.area.now a.at a.owners _ c.any_damaged.ensures kept ∙ c.if-any_damaged.false) refl;
-      built = linked-same a.self.now.entry.now a.owners kept
-          (place.0 ∙ ap (λ (l : Link). new_place a.self.now.base.now a.self.now.entry.now l.prior) (filled_at (link_at a.self.now.base.now a.self.now.entry.now a.owners a.spot a.on) _ a.self.now.entry.now.count no_link kept a.on c.requires.on_lt_count))
+      status = rw (place.1, damaged-kept a.self.now.base.now a.self.now.entry.now a.self.now.src.now a.self.now.at a.self.now.owners _ c.any_damaged.ensures kept ∙ c.if-any_damaged.false) refl;
+      built = linked-same a.self.now.entry.now a.self.now.owners kept
+          (place.0 ∙ ap (λ (l : Link). new_place a.self.now.base.now a.self.now.entry.now l.prior) (filled_at (link_at a.self.now.base.now a.self.now.entry.now a.self.now.owners a.spot a.on) _ a.self.now.entry.now.count no_link kept a.on c.requires.on_lt_count))
           c.linked_plan.ensures;
     }

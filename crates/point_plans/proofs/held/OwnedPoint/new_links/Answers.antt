@@ -1,24 +1,18 @@
-use Prim.Native.Nat.{◌<◌}
 use mathlib.Core.Path.{◌≡◌, refl}
 use native.Mathlib.Omega.{arith}
 use borrow.Author.Rules.{rules}
 use Rattle.octets.specs.BelowLaws.{fill_step, rest-step}
 use Rattle.point_plans.specs.Paths.{link_at}
-use Rattle.point_plans.proofs.held.Points.new_links.Goals as goal
+use Rattle.point_plans.proofs.held.OwnedPoint.new_links.Goals as goal
 
 pub loop-k-init : goal.loop-k-init
 loop-k-init c = (refl, refl, refl)
-
-pub new_link-requires : goal.new_link-requires
-new_link-requires c =
-    let h : c.loop-k.k < c.args.self.now.entry.now.count = omega arith in
-    record { spot_in = c.requires.spot_in; k_lt_count = h; owner_in = c.requires.owners_in.owner c.loop-k.k h }
 
 pub loop-k-preserved : goal.loop-k-preserved
 loop-k-preserved c =
     let a = c.args in (
       search rules,
-      fill_step (link_at a.self.now.base.now a.self.now.entry.now a.owners a.spot a.named) c.loop-k.links c.loop-k.k _ (omega arith) c.loop-k.invariant.1 c.new_link.ensures,
+      fill_step (link_at a.self.now.base.now a.self.now.entry.now a.self.now.owners a.spot a.named) c.loop-k.links c.loop-k.k _ (omega arith) c.loop-k.invariant.1 c.new_link.ensures,
       rest-step c.loop-k.links _ c.loop-k.k _ c.loop-k.invariant.2,
     )
 

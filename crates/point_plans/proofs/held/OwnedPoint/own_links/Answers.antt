@@ -3,7 +3,7 @@ use native.Mathlib.Omega.{arith}
 use borrow.Author.Rules.{rules}
 use Rattle.octets.specs.BelowLaws.{fill_step, rest-step}
 use Rattle.point_plans.specs.Paths.{link_on}
-use Rattle.point_plans.proofs.held.Points.own_links.Goals as goal
+use Rattle.point_plans.proofs.held.OwnedPoint.own_links.Goals as goal
 
 pub loop-k-init : goal.loop-k-init
 loop-k-init c = (refl, refl, refl)
