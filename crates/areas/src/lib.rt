@@ -8,6 +8,9 @@ ghost use Rattle.schema.specs.Place.{InSet, LiesIn, place_of};
 ghost use Rattle.records.specs.Areas.{is_master, area_key_place, area_keys, area_length, area_body, area_of, new_master, new_paths, new_variable};
 ghost use Rattle.records.specs.Fields.{Fields};
 
+pub mod given;
+
+use given::Area;
 use records::Link;
 use records::held::Record;
 use schema::layout::{path_of, place_of};
@@ -17,7 +20,7 @@ use terms::RecordNo;
 // "state byte (1 live), three zeros", as the first word of a record
 const LIVE: u32 = 0x01000000;
 
-// Stores the n bytes from `from` of src at `at` of dst. (kept: a slice of src with its end is no plainer in the seven places that copy.)
+// Stores the n bytes from `from` of src at `at` of dst. (kept: a slice of src with its end is no plainer in the four places that copy.)
 fn copy_part(dst: &mut [u8], at: usize, src: &[u8], from: usize, n: usize)
     requires n_in_bounds { at + n ≤ length dst.old }
     requires n_in_bounds_2 { from + n ≤ length src.now }
@@ -59,18 +62,15 @@ pub fn area_length(e: Entry) -> usize
 }
 
 // Stores the D bytes of an area into the record.
-pub fn put_body(base: &mut [u8], e: Entry, r: RecordNo, area: &[u8])
-    requires in_set { InSet e r.0 }
-    requires lies_in { LiesIn e (length base.old) }
-    requires fields { Fields e }
-    requires area_len { length area.now ≡ area_length e }
-    ensures { base.new ≡ splice base.old (place_of e r.0 + e.body) (area_body e area.now) }
+pub fn put_body(base: &mut [u8], r: RecordNo, area: &Area)
+    requires in_set { InSet area.now.entry.now r.0 }
+    requires lies_in { LiesIn area.now.entry.now (length base.old) }
+    ensures { base.new ≡ splice base.old (place_of area.now.entry.now r.0 + area.now.entry.now.body) (area_body area.now.entry.now area.now.bytes.now) }
 {
-    let from = area_keys(e);
-    let at = place_of(e, r);
+    let e = area.entry;
+    let at = place_of(*e, r);
     let end = at + (e.size as usize);
-    let part = &mut base[at..end];
-    copy_part(part, e.body as usize, area, from, e.room as usize);
+    octets::copy_in(&mut base[at..end], e.body as usize, area.body());
 }
 
 // A master's key and D bytes, read into the area.
@@ -119,89 +119,75 @@ pub fn read_area(record: &Record, area: &mut [u8])
 }
 
 // The bytes of a new master, field by field: it has no points yet, so every first and last is 0.
-fn new_master(part: &mut [u8], e: Entry, root: Link, area: &[u8])
-    requires part_len { length part.old ≡ e.body + e.room }
-    requires area_len { length area.now ≡ area_length e }
-    requires key_bound { (12 + e.key ≤ e.body) × (e.kind ≡ 1) }
-    ensures { part.new ≡ splice part.old 0 (new_master e root area.now) }
+fn new_master(part: &mut [u8], root: Link, area: &Area)
+    requires part_len { length part.old ≡ area.now.entry.now.body + area.now.entry.now.room }
+    requires kind_value { area.now.entry.now.kind ≡ 1 }
+    ensures { part.new ≡ splice part.old 0 (new_master area.now.entry.now root area.now.bytes.now) }
 {
-    let len = e.key as usize;
-    let body = e.body as usize;
+    let behind = 12 + (area.entry.key as usize);
+    let body = area.entry.body as usize;
     octets::put_word(part, 0, LIVE);
     octets::put_word(part, 4, root.next);
     octets::put_word(part, 8, root.prior);
-    copy_part(part, 12, area, 0, len);
-    octets::zero(part, 12 + len, body - (12 + len));
-    copy_part(part, body, area, len, e.room as usize);
+    octets::copy_in(part, 12, area.master_key());
+    octets::zero(part, behind, body - behind);
+    octets::copy_in(part, body, area.body());
 }
 
 // A new master, stored whole at its record.
-pub fn put_master(base: &mut [u8], e: Entry, r: RecordNo, root: Link, area: &[u8])
-    requires in_set { InSet e r.0 }
-    requires lies_in { LiesIn e (length base.old) }
-    requires fields { Fields e }
-    requires area_len { length area.now ≡ area_length e }
-    requires kind_value { e.kind ≡ 1 }
-    ensures { base.new ≡ splice base.old (place_of e r.0) (new_master e root area.now) }
+pub fn put_master(base: &mut [u8], r: RecordNo, root: Link, area: &Area)
+    requires in_set { InSet area.now.entry.now r.0 }
+    requires lies_in { LiesIn area.now.entry.now (length base.old) }
+    requires kind_value { area.now.entry.now.kind ≡ 1 }
+    ensures { base.new ≡ splice base.old (place_of area.now.entry.now r.0) (new_master area.now.entry.now root area.now.bytes.now) }
 {
-    let at = place_of(e, r);
-    let end = at + (e.size as usize);
-    new_master(&mut base[at..end], e, root, area);
+    let at = place_of(*area.entry, r);
+    let end = at + (area.entry.size as usize);
+    new_master(&mut base[at..end], root, area);
 }
 
-// "per path key, prior, next": the fields of one path, its key from the area.
-fn put_path(part: &mut [u8], p: Path, link: Link, area: &[u8], from: usize)
-    requires len_in_bounds { p.at + p.len + 8 ≤ length part.old }
-    requires len_in_bounds_2 { from + p.len ≤ length area.now }
-    ensures { part.new ≡ splice part.old p.at (run area.now from p.len ++ (word_bytes link.prior ++ word_bytes link.next)) }
+// "per path key, prior, next": the fields of one path.
+fn put_path(part: &mut [u8], at: usize, key: &[u8], link: Link)
+    requires { at + length key.now + 8 ≤ length part.old }
+    ensures { part.new ≡ splice part.old at (key.now ++ (word_bytes link.prior ++ word_bytes link.next)) }
 {
-    let at = p.at as usize;
-    let len = p.len as usize;
-    copy_part(part, at, area, from, len);
-    octets::put_word(part, at + len, link.prior);
-    octets::put_word(part, at + len + 4, link.next);
+    let behind = at + key.len();
+    octets::copy_in(part, at, key);
+    octets::put_word(part, behind, link.prior);
+    octets::put_word(part, behind + 4, link.next);
 }
 
 // The fields of every path of a new variable record.
-fn put_paths(part: &mut [u8], e: Entry, links: [Link; 4], area: &[u8])
-    requires part_len { length part.old ≡ e.body + e.room }
-    requires area_len { length area.now ≡ area_length e }
-    requires fields { Fields e }
-    requires e_value { is_master e ≡ false }
-    ensures { part.new ≡ splice part.old 4 (new_paths e links area.now e.count 0) }
+fn put_paths(part: &mut [u8], links: [Link; 4], area: &Area)
+    requires part_len { length part.old ≡ area.now.entry.now.body + area.now.entry.now.room }
+    requires e_value { is_master area.now.entry.now ≡ false }
+    ensures { part.new ≡ splice part.old 4 (new_paths area.now.entry.now links area.now.bytes.now area.now.entry.now.count 0) }
 {
-    let mut from: usize = 0;
-    for j in 0..e.count as usize {
-        let p = path_of(e, j);
-        put_path(part, p, links[j], area, from);
-        from += p.len as usize;
+    for j in 0..area.entry.count as usize {
+        let p = path_of(*area.entry, j);
+        put_path(part, p.at as usize, area.key_on(j), links[j]);
     }
 }
 
 // The bytes of a new variable record, field by field.
-fn new_variable(part: &mut [u8], e: Entry, links: [Link; 4], area: &[u8])
-    requires part_len { length part.old ≡ e.body + e.room }
-    requires area_len { length area.now ≡ area_length e }
-    requires fields { Fields e }
-    requires e_value { is_master e ≡ false }
-    ensures { part.new ≡ splice part.old 0 (new_variable e links area.now) }
+fn new_variable(part: &mut [u8], links: [Link; 4], area: &Area)
+    requires part_len { length part.old ≡ area.now.entry.now.body + area.now.entry.now.room }
+    requires e_value { is_master area.now.entry.now ≡ false }
+    ensures { part.new ≡ splice part.old 0 (new_variable area.now.entry.now links area.now.bytes.now) }
 {
     octets::put_word(part, 0, LIVE);
-    put_paths(part, e, links, area);
-    let from = area_keys(e);
-    copy_part(part, e.body as usize, area, from, e.room as usize);
+    put_paths(part, links, area);
+    octets::copy_in(part, area.entry.body as usize, area.body());
 }
 
 // A new variable record, stored whole at its record.
-pub fn put_variable(base: &mut [u8], e: Entry, r: RecordNo, links: [Link; 4], area: &[u8])
-    requires in_set { InSet e r.0 }
-    requires lies_in { LiesIn e (length base.old) }
-    requires fields { Fields e }
-    requires area_len { length area.now ≡ area_length e }
-    requires kind_value { e.kind ≡ 2 }
-    ensures { base.new ≡ splice base.old (place_of e r.0) (new_variable e links area.now) }
+pub fn put_variable(base: &mut [u8], r: RecordNo, links: [Link; 4], area: &Area)
+    requires in_set { InSet area.now.entry.now r.0 }
+    requires lies_in { LiesIn area.now.entry.now (length base.old) }
+    requires kind_value { area.now.entry.now.kind ≡ 2 }
+    ensures { base.new ≡ splice base.old (place_of area.now.entry.now r.0) (new_variable area.now.entry.now links area.now.bytes.now) }
 {
-    let at = place_of(e, r);
-    let end = at + (e.size as usize);
-    new_variable(&mut base[at..end], e, links, area);
+    let at = place_of(*area.entry, r);
+    let end = at + (area.entry.size as usize);
+    new_variable(&mut base[at..end], links, area);
 }

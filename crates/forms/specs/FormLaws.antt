@@ -1,12 +1,14 @@
 -- The tests of the parameters and the ladder: they are its tests from Area on. And the laws by which the code asks them: a test on
 -- the area's keys is asked where the area has its length, one on the control key where that has its length, and one answer stands for the
 -- four tests of the reference.
-use Rattle.std.specs.Prelude.{ℕ, ◌<◌, ◌≡◌, Bool, true, false, cond, not, ◌&&◌, ◌||◌, List, eqb, ltb, length}
-use Rattle.std.proofs.Math.Path.{refl}
-use borrow.Author.Tests.{eqb-true, eq-eqb, ne_eqb, ltb-true, not-false}
+use Rattle.std.specs.List.{list_any, range_with_len}
+use Rattle.std.specs.Prelude.{ℕ, zero, suc, ◌+◌, ◌<◌, ◌≡◌, Bool, true, false, cond, not, ◌&&◌, ◌||◌, List, eqb, ltb, length}
+use Rattle.std.proofs.Common.{refl, sym, ap, ◌∙◌, arith}
+use Rattle.std.proofs.Math.Bool.{not-not, and-true}
+use borrow.Author.Tests.{eq-eqb, ne_eqb, ltb-true, not-false}
 use Rattle.octets.specs.Octets.{all_blank, same_bytes}
 use Rattle.octets.specs.Below.{all_below}
-use Rattle.octets.specs.BelowLaws.{all_below-fails}
+use Rattle.octets.specs.BelowLaws.{all_below-turn, all_below-fails}
 use Rattle.octets.specs.TestLaws.{never_both, asked}
 use Rattle.octets.specs.TestLaws as tests
 use Rattle.terms.specs.declared.Status.{Status}
@@ -71,23 +73,6 @@ asks_area o = each_operation (λ u. (rungs_of u).area || not ((rungs_of u).blank
 pub asks_key : (o : Operation) → ((rungs_of o).key || not ((rungs_of o).blank || (rungs_of o).same)) ≡ true
 asks_key o = each_operation (λ u. (rungs_of u).key || not ((rungs_of u).blank || (rungs_of u).same)) refl o
 
--- so an area whose keys are asked for has its length
-asked-fits : (ar x ft : Bool) → (ar || not x) ≡ true → (ar && not ft) ≡ false → x ≡ true → ft ≡ true
-asked-fits true x true h g a = refl
-asked-fits true x false h g a = cc
-asked-fits false true ft h g a = cc
-asked-fits false false ft h g a = cc
-
-pub area-fits : (o : Operation) {n m : ℕ} → ((rungs_of o).area && not (eqb n m)) ≡ false → ((rungs_of o).blank || (rungs_of o).same) ≡ true → n ≡ m
-area-fits o {n} {m} g a = eqb-true n m (asked-fits (rungs_of o).area ((rungs_of o).blank || (rungs_of o).same) (eqb n m) (asks_area o) g a)
-
--- a test that is not asked, and one that is
-pub not-asked : (b x : Bool) → b ≡ false → false ≡ (b && x)
-not-asked b x h = rw h refl
-
-pub is_asked : (b x r : Bool) → b ≡ true → r ≡ x → r ≡ (b && x)
-is_asked b x r h k = rw h k
-
 -- ---- the keys of an area, by the kind of its set
 
 module _ (e : Entry) (area : List ℕ) where
@@ -105,29 +90,34 @@ module _ (e : Entry) (area : List ℕ) where
 
 -- ---- the keys of an area, path by path
 
+-- a number of 0..n that f holds of is one below n that g fails of, where g is the converse of f
+any-from : (f g : ℕ → Bool) → ((k : ℕ) → g k ≡ not (f k)) → (n a m : ℕ) → a + n ≡ m → all_below g a ≡ true → list_any f (range_with_len a n) ≡ not (all_below g m)
+any-from f g c zero a m e h = let q : a ≡ m = omega (arith, e) in rw (← q, h) refl
+any-from f g c (suc n) a m e h = turn (f a) refl (λ k. any-from f g c n (a + 1) m (omega (arith, e)) (all_below-turn g a h (c a ∙ ap not k)))
+  where
+    turn : (t : Bool) → f a ≡ t → (f a ≡ false → list_any f (range_with_len (a + 1) n) ≡ not (all_below g m)) → (t || list_any f (range_with_len (a + 1) n)) ≡ not (all_below g m)
+    turn false k more = more k
+    turn true k more = rw (all_below-fails g m a (omega (arith, e)) (c a ∙ ap not k)) refl
+
+any-upto : (f g : ℕ → Bool) → ((k : ℕ) → g k ≡ not (f k)) → (n : ℕ) → list_any f (range_with_len 0 n) ≡ not (all_below g n)
+unfolding all_below
+any-upto f g c n = any-from f g c n 0 n (omega arith) refl
+
 module _ (e : Entry) (area : List ℕ) where
-  abbrev pub not_blank : ℕ → Bool
-  not_blank k = not (all_blank (area_key_on e area k))
+  abbrev pub blank_on : ℕ → Bool
+  blank_on k = all_blank (area_key_on e area k)
 
-  pub blank_found : is_master e ≡ false → (j : ℕ) → j < e.count → all_blank (area_key_on e area j) ≡ true → blank_area_key e area ≡ true
+  pub some_blank : is_master e ≡ false → list_any blank_on (range_with_len 0 e.count) ≡ blank_area_key e area
   unfolding blank_area_key
-  blank_found v j l h = rw (v, all_below-fails not_blank e.count j l (rw h refl)) refl
-
-  pub blank_none : is_master e ≡ false → all_below not_blank e.count ≡ true → blank_area_key e area ≡ false
-  unfolding blank_area_key
-  blank_none v h = rw (v, h) refl
+  some_blank v = rw v (any-upto blank_on (λ k. not (blank_on k)) (λ k. refl) e.count)
 
 module _ (b : List ℕ) (e : Entry) (r : ℕ) (area : List ℕ) where
   abbrev pub same_stored : ℕ → Bool
   same_stored k = same_bytes (area_key_on e area k) (key_on b e r (path_of e k))
 
-  pub other_found : (j : ℕ) → j < e.count → same_stored j ≡ false → other_stored_key b e r area ≡ true
+  pub some_other : list_any (λ k. not (same_stored k)) (range_with_len 0 e.count) ≡ other_stored_key b e r area
   unfolding other_stored_key
-  other_found j l h = rw (all_below-fails same_stored e.count j l h) refl
-
-  pub other_none : all_below same_stored e.count ≡ true → other_stored_key b e r area ≡ false
-  unfolding other_stored_key
-  other_none h = rw h refl
+  some_other = any-upto (λ k. not (same_stored k)) same_stored (λ k. sym (not-not (same_stored k))) e.count
 
 -- ---- the answers put together
 
@@ -168,3 +158,15 @@ module _ (o : Operation) (e : Entry) (on link k ref : ℕ) (key area : List ℕ)
           ≡ form_status o e on link k ref key area
       unfolding form_status
       form_keys h = rw (fits, keyed, eq-eqb (length key) k h, by-reference (rungs_of o) e link ref) refl
+
+      -- an area that has not its length is asked for no key
+      pub form_unsized : eqb (length area) (area_length e) ≡ false → length key ≡ k
+          → decided (all_blank key) false false (wrong_reference (rungs_of o) e link ref) ≡ form_status o e on link k ref key area
+      unfolding form_status
+      form_unsized l h =
+          let a : (rungs_of o).area ≡ false = alone (rungs_of o).area (rw l at fits) in
+          let n = neither (rungs_of o).area (rungs_of o).blank (rungs_of o).same (asks_area o) a in
+          rw (fits, keyed, eq-eqb (length key) k h, n.0, n.1, by-reference (rungs_of o) e link ref) refl
+        where
+          alone : (b : Bool) → (b && true) ≡ false → b ≡ false
+          alone b q = rw and-true at q

@@ -5,15 +5,17 @@ ghost use Rattle.std.specs.Prelude.{◌≡◌, false, true, ◌&&◌, ◌||◌, 
 ghost use Rattle.octets.specs.Octets.{all_blank};
 ghost use Rattle.terms.specs.Terms.{key_of};
 ghost use Rattle.terms.specs.Status.{status_of};
-ghost use Rattle.schema.specs.Place.{InSet, LiesIn};
-ghost use Rattle.records.specs.Areas.{is_master, area_length};
+ghost use Rattle.records.specs.Areas.{is_master};
 ghost use Rattle.records.specs.Fields.{Fields};
 ghost use Rattle.calls.specs.Ladder.{blank_area_key, other_area_key, other_stored_key};
+ghost use Rattle.forms.specs.FormLaws.{same_stored};
 ghost use Rattle.forms.specs.Form.{rungs_of, form_status, decided, wrong_reference};
 
+use areas::given::Area;
+use records::held::Record;
 use schema::Entry;
-use schema::layout::{path_of, record_of};
-use terms::{Key, Operation, RecordNo, Reference, Refusal};
+use schema::layout::path_of;
+use terms::{Key, Operation, Reference, Refusal};
 
 // Which tests of its parameters an operation has.
 #[derive(Clone, Copy)]
@@ -81,60 +83,35 @@ impl From<Operation> for Rungs {
 }
 
 // Is the key of some path blank in a variable set's area?
-fn blank_path_key(e: Entry, area: &[u8]) -> bool
-    requires fields { Fields e }
-    requires e_value { is_master e ≡ false }
-    requires area_len { length area.now ≡ area_length e }
-    ensures { result ≡ blank_area_key e area.now }
+fn blank_path_key(area: &Area) -> bool
+    requires { is_master area.now.entry.now ≡ false }
+    ensures { result ≡ blank_area_key area.now.entry.now area.now.bytes.now }
 {
-    let mut at: usize = 0;
-    for j in 0..usize::from(e.count) {
-        let p = path_of(e, j);
-        let len = usize::from(p.len);
-        let key = Key::part(area, at, len);
-        if key.is_blank() {
-            return true;
-        }
-        at += len;
-    }
-    false
+    (0..usize::from(area.entry.count)).any(|j| Key::of(area.key_on(j)).is_blank())
 }
 
-// 9: "for any area key of ADD-M or an add". Asked only of an area that has its length.
-fn blank_area_key(asked: bool, e: Entry, area: &[u8]) -> bool
-    requires fields { Fields e }
-    requires area_len { asked ≡ true → length area.now ≡ area_length e }
-    ensures { result ≡ (asked && blank_area_key e area.now) }
+// 9: "for any area key of ADD-M or an add".
+fn blank_area_key(area: &Area) -> bool
+    ensures { result ≡ blank_area_key area.now.entry.now area.now.bytes.now }
 {
-    if !asked {
-        return false;
+    if area.entry.kind == 1 {
+        return Key::of(area.master_key()).is_blank();
     }
-    if e.kind == 1 {
-        let key = Key::part(area, 0, usize::from(e.key));
-        return key.is_blank();
-    }
-    blank_path_key(e, area)
+    blank_path_key(area)
 }
 
 // 10: "ADD-M, WRITM, and for adds the named path's key" differs from the control key.
-fn other_area_key(asked: bool, e: Entry, on: usize, control: Key, area: &[u8]) -> bool
-    requires fields { Fields e }
+fn other_area_key(area: &Area, on: usize, control: Key) -> bool
     requires len_bound { control.len ≤ 16 }
-    requires area_len { asked ≡ true → length area.now ≡ area_length e }
-    requires on_lt_count { is_master e ≡ false → asked ≡ true → on < e.count }
-    ensures { result ≡ (asked && other_area_key e on (key_of control) area.now) }
+    requires on_lt_count { is_master area.now.entry.now ≡ false → on < area.now.entry.now.count }
+    ensures { result ≡ other_area_key area.now.entry.now on (key_of control) area.now.bytes.now }
 {
-    if !asked {
-        return false;
-    }
-    if e.kind == 1 {
-        let key = Key::part(area, 0, usize::from(e.key));
-        return !key.same(control);
-    }
-    let at = areas::area_key_place(e, on);
-    let p = path_of(e, on);
-    let key = Key::part(area, at, usize::from(p.len));
-    !key.same(control)
+    let key = if area.entry.kind == 1 {
+        area.master_key()
+    } else {
+        area.key_on(on)
+    };
+    !Key::of(key).same(control)
 }
 
 // 11: has the reference a form that the call does not take?
@@ -170,29 +147,20 @@ fn decide(control: bool, blank: bool, other: bool, reference: bool) -> Result<()
     Ok(())
 }
 
-// The tests 9 to 11 of a call whose control key has its length; `wrong` is test 11's answer.
-fn key_status(
-    q: Rungs,
-    e: Entry,
-    on: usize,
-    control: Key,
-    area: &[u8],
-    wrong: bool,
-) -> Result<(), Refusal>
-    requires fields { Fields e }
+// The tests 9 to 11 of a call whose control key and area have their lengths; `wrong` is test 11's answer.
+fn key_status(q: Rungs, on: usize, control: Key, area: &Area, wrong: bool) -> Result<(), Refusal>
     requires len_bound { control.len ≤ 16 }
-    requires area_len { (q.blank || q.same) ≡ true → length area.now ≡ area_length e }
-    requires on_lt_count { is_master e ≡ false → q.same ≡ true → on < e.count }
-    ensures { status_of result ≡ decided (all_blank (key_of control)) (q.blank && blank_area_key e area.now) (q.same && other_area_key e on (key_of control) area.now) wrong }
+    requires on_lt_count { is_master area.now.entry.now ≡ false → q.same ≡ true → on < area.now.entry.now.count }
+    ensures { status_of result ≡ decided (all_blank (key_of control)) (q.blank && blank_area_key area.now.entry.now area.now.bytes.now) (q.same && other_area_key area.now.entry.now on (key_of control) area.now.bytes.now) wrong }
 {
-    let empty = control.is_blank();
-    let blank = blank_area_key(q.blank, e, area);
-    let other = other_area_key(q.same, e, on, control, area);
-    decide(empty, blank, other, wrong)
+    let blank = q.blank && blank_area_key(area);
+    let other = q.same && other_area_key(area, on, control);
+    decide(control.is_blank(), blank, other, wrong)
 }
 
 // The tests 7 to 11 of a call on the set e: `on` is the named path's number and `link` its LKxx, `k` the length of the control key.
-// The control key becomes a key once it has its length, and the area's keys are read once the area has its own.
+// The control key becomes a key once it has its length, and the bytes of the area an area once they have theirs: who asks for its keys has
+// asked for its length.
 pub fn form_status(
     o: Operation,
     e: Entry,
@@ -209,8 +177,8 @@ pub fn form_status(
     ensures { status_of result ≡ form_status o e on link k reference key.now area.now }
 {
     let q = Rungs::from(o);
-    let fits = area.len() == areas::area_length(e);
-    if q.area & !fits {
+    let fitting = Area::fitting(area, &e);
+    if q.area & fitting.is_none() {
         return Err(Refusal::Area);
     }
     let wrong = wrong_reference(q, e, link, reference);
@@ -221,29 +189,27 @@ pub fn form_status(
         return Err(Refusal::Klen);
     }
     let control = Key::of(key);
-    key_status(q, e, on, control, area, wrong)
+    let Some(area) = fitting else {
+        return decide(control.is_blank(), false, false, wrong);
+    };
+    key_status(q, on, control, &area, wrong)
+}
+
+// Is the area's key on path j the stored one?
+fn same_stored_key(record: &Record, area: &Area, j: usize) -> bool
+    requires entry { record.now.entry.now ≡ area.now.entry.now }
+    requires among { (is_master area.now.entry.now ≡ false) × (j < area.now.entry.now.count) }
+    ensures { result ≡ same_stored record.now.base.now area.now.entry.now record.now.number.0 area.now.bytes.now j }
+{
+    let p = path_of(*area.entry, j);
+    record.key_is(usize::from(p.at), Key::of(area.key_on(j)))
 }
 
 // "10 for WRITV if an area key differs from the stored one"
-pub fn other_stored_key(base: &[u8], e: Entry, r: RecordNo, area: &[u8]) -> bool
-    requires in_set { InSet e r.0 }
-    requires lies_in { LiesIn e (length base.now) }
-    requires fields { Fields e }
-    requires e_value { is_master e ≡ false }
-    requires area_len { length area.now ≡ area_length e }
-    ensures { result ≡ other_stored_key base.now e r.0 area.now }
+pub fn other_stored_key(record: &Record, area: &Area) -> bool
+    requires entry { record.now.entry.now ≡ area.now.entry.now }
+    requires e_value { is_master area.now.entry.now ≡ false }
+    ensures { result ≡ other_stored_key record.now.base.now area.now.entry.now record.now.number.0 area.now.bytes.now }
 {
-    let part = record_of(base, e, r);
-    let mut at: usize = 0;
-    for j in 0..usize::from(e.count) {
-        let p = path_of(e, j);
-        let len = usize::from(p.len);
-        let key = Key::part(area, at, len);
-        let stored = key.at(part, usize::from(p.at));
-        if !stored {
-            return true;
-        }
-        at += len;
-    }
-    false
+    (0..usize::from(area.entry.count)).any(|j| !same_stored_key(record, area, j))
 }

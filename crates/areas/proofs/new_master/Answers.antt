@@ -1,10 +1,12 @@
 -- `areas::new_master` meets its contract: the fields, stored one behind the other, are one splice. Assumes nothing.
 use borrow.Author.Tests.{eq-eqb}
+use Rattle.records.proofs.AreaLaws.{master_keys}
 use Rattle.records.proofs.NewLaws.{master-made}
 use Rattle.areas.proofs.new_master.Goals as goal
 
 pub returns : goal.returns
 returns c =
-    let a = c.args in
-    rw (c.copy_part-2.ensures, c.zero.ensures, c.copy_part.ensures, c.put_word-3.ensures, c.put_word-2.ensures, c.put_word.ensures)
-    (master-made a.e a.root a.area.now (eq-eqb _ _ c.requires.key_bound.1) c.requires.key_bound.0 c.requires.area_len a.part.now)
+    let s = c.args.area.now in
+    let m = eq-eqb _ _ c.requires.kind_value in
+    rw (c.copy_in-2.ensures, c.body.ensures.value, master_keys s.entry.now m, c.zero.ensures, c.copy_in.ensures, c.master_key.ensures.value, c.put_word-3.ensures, c.put_word-2.ensures, c.put_word.ensures)
+    (master-made s.entry.now c.args.root s.bytes.now m (s.fields.key m) s.sized c.args.part.now)

@@ -21,8 +21,9 @@ slice_bounds-new_master-end c = omega (arith, place_inside c.args.r.0 c.requires
 pub returns : goal.returns
 returns c =
     let a = c.args in
-    let ys = new_master a.e a.root a.area.now in
-    let l : length ys ≡ a.e.body + a.e.room = length-new_master a.e a.root a.area.now (eq-eqb _ _ c.requires.kind_value) (c.requires.fields.key (eq-eqb _ _ c.requires.kind_value)) c.requires.area_len in
-    let z : place_of a.e a.r.0 + 0 ≡ place_of a.e a.r.0 = omega arith in
-    rw (add-sub_cancel_left c.place_of-at.result a.e.size, c.new_master.ensures, add-sub_cancel_left c.place_of-at.result a.e.size, c.place_of-at.ensures)
-    (rw z at (splice-part (place_of a.e a.r.0) a.e.size a.base.now 0 ys (omega (arith, l, c.requires.lies_in.sized))))
+    let e = a.area.now.entry.now in
+    let ys = new_master e a.root a.area.now.bytes.now in
+    let l : length ys ≡ e.body + e.room = length-new_master e a.root a.area.now.bytes.now (eq-eqb _ _ c.requires.kind_value) (c.args.area.now.fields.key (eq-eqb _ _ c.requires.kind_value)) c.args.area.now.sized in
+    let z : place_of e a.r.0 + 0 ≡ place_of e a.r.0 = omega arith in
+    rw (add-sub_cancel_left c.place_of-at.result e.size, c.new_master.ensures, add-sub_cancel_left c.place_of-at.result e.size, c.place_of-at.ensures)
+    (rw z at (splice-part (place_of e a.r.0) e.size a.base.now 0 ys (omega (arith, l, c.requires.lies_in.sized))))

@@ -4,12 +4,13 @@ use Prim.Native.Nat.{◌-◌}
 use mathlib.Core.Path.{◌≡◌}
 use lib.ListN.{length}
 use Rattle.octets.specs.Octets.{splice}
-use Rattle.records.specs.Areas.{area_key_place, new_paths}
+use Rattle.records.specs.Areas.{new_paths}
 use Rattle.records.specs.Fields.{path_place}
 use Rattle.areas.proofs.put_paths.Given as goal
 
 abbrev pub invariant-loop-j : goal.invariant-loop-j
 invariant-loop-j l =
-    (l.from ≡ area_key_place l.e l.j)
-    × (length l.part ≡ length l.initial.part)
-    × (splice l.part (path_place l.e l.j) (new_paths l.e l.links l.area (l.e.count - l.j) l.j) ≡ splice l.initial.part 4 (new_paths l.e l.links l.area l.e.count 0))
+    let e = l.area.entry.now in
+    let area = l.area.bytes.now in
+    (length l.part ≡ length l.initial.part)
+    × (splice l.part (path_place e l.j) (new_paths e l.links area (e.count - l.j) l.j) ≡ splice l.initial.part 4 (new_paths e l.links area e.count 0))
