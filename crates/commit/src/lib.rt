@@ -7,12 +7,13 @@ ghost use Rattle.octets.specs.Octets.{splice, set_word};
 ghost use Rattle.blocks.specs.Blocks.{check_by};
 ghost use Rattle.schema.specs.Place.{InSet, LiesIn, place_of, record_of};
 ghost use Rattle.records.specs.Fields.{Fields};
-ghost use Rattle.records.specs.Areas.{area_length, new_master};
+ghost use Rattle.records.specs.Areas.{new_master};
 ghost use Rattle.plans.specs.Plan.{blocks_sealed, store_all, committed};
 ghost use Rattle.plans.specs.PlanOk.{HeadOk, AreaOk, PlanOk, AllFit, WordsOk};
 ghost use Rattle.plans.specs.Stores.{word_stores, head_stores, wiped_stores, plan_stores};
 ghost use Rattle.commit.specs.Touched.{add_new, add_all, distinct, bare_numbers, numbers_of, AllWithin, all_sealed, seal_each, word_blocks, head_blocks, wiped_blocks, plan_blocks};
 
+use areas::given::Area;
 use areas::{put_body, put_master, put_variable};
 use blocks::{Check, block_with};
 use plans::{Head, Plan, Word};
@@ -101,14 +102,13 @@ fn wiped_block(blocks: Blocks, e: Entry, r: u32) -> Blocks
 }
 
 // The blocks that the plan's stores go into.
-fn touched(e: Entry, p: Plan) -> Blocks
+fn touched(e: Entry, p: &Plan) -> Blocks
     requires lies_in { LiesIn e 2097152 }
-    requires head_ok { HeadOk p.head e p.target.0 p.other.0 }
-    requires count_bound { (p.count ≤ 8) × (p.wiped ≤ e.records) }
-    ensures { (numbers_of result ≡ distinct (plan_blocks e p)) × (result.count ≤ 11) }
+    requires head_ok { HeadOk p.now.head e p.now.target.0 p.now.other.0 }
+    requires count_bound { (p.now.count ≤ 8) × (p.now.wiped ≤ e.records) }
+    ensures { (numbers_of result ≡ distinct (plan_blocks e p.now)) × (result.count ≤ 11) }
 {
-    let head = p.head;
-    let heads = head_blocks(e, head, p.target, p.other);
+    let heads = head_blocks(e, p.head, p.target, p.other);
     let words = word_blocks(heads, &p.words[..p.count]);
     wiped_block(words, e, p.wiped)
 }
@@ -157,41 +157,31 @@ fn put_synonym(base: &mut [u8], e: Entry, r: RecordNo, q: RecordNo)
 }
 
 // The stranger in r moves to q, and a new master takes its place.
-fn put_stranger(base: &mut [u8], e: Entry, r: RecordNo, q: RecordNo, root: Link, area: &[u8])
-    requires in_set { InSet e r.0 × InSet e q.0 × (r.0 ≡ q.0 → ⊥) }
-    requires lies_in { LiesIn e (length base.old) }
-    requires fields { Fields e }
-    requires area_len { length area.now ≡ area_length e }
-    requires kind_value { e.kind ≡ 1 }
-    ensures { base.new ≡ splice (splice base.old (place_of e q.0) (record_of base.old e r.0)) (place_of e r.0) (new_master e root area.now) }
+fn put_stranger(base: &mut [u8], r: RecordNo, q: RecordNo, root: Link, area: &Area)
+    requires in_set { InSet area.now.entry.now r.0 × InSet area.now.entry.now q.0 × (r.0 ≡ q.0 → ⊥) }
+    requires lies_in { LiesIn area.now.entry.now (length base.old) }
+    requires kind_value { area.now.entry.now.kind ≡ 1 }
+    ensures { base.new ≡ splice (splice base.old (place_of area.now.entry.now q.0) (record_of base.old area.now.entry.now r.0)) (place_of area.now.entry.now r.0) (new_master area.now.entry.now root area.now.bytes.now) }
 {
-    move_record(base, e, r, q);
-    put_master(base, e, r, root, area);
+    move_record(base, *area.entry, r, q);
+    put_master(base, r, root, area);
 }
 
-// What goes first: r and q are the plan's target and its other record.
-fn store_head(
-    base: &mut [u8],
-    e: Entry,
-    area: &[u8],
-    head: Head,
-    r: RecordNo,
-    q: RecordNo,
-    links: [Link; 4],
-)
+// What goes first. Only a head that takes bytes from the area asks for its length.
+fn store_head(base: &mut [u8], e: Entry, area: &[u8], p: &Plan)
     requires lies_in { LiesIn e (length base.old) }
     requires fields { Fields e }
-    requires head_ok { HeadOk head e r.0 q.0 }
-    requires area_ok { AreaOk head e area.now }
-    ensures { base.new ≡ store_all base.old (head_stores head base.old e area.now r.0 q.0 links) }
+    requires head_ok { HeadOk p.now.head e p.now.target.0 p.now.other.0 }
+    requires area_ok { AreaOk p.now.head e area.now }
+    ensures { base.new ≡ store_all base.old (head_stores p.now.head base.old e area.now p.now.target.0 p.now.other.0 p.now.links) }
 {
-    match head {
+    match p.head {
         Head::Nothing => {}
-        Head::Body => put_body(base, e, r, area),
-        Head::Master => put_master(base, e, r, links[0], area),
-        Head::Variable => put_variable(base, e, r, links, area),
-        Head::Stranger => put_stranger(base, e, r, q, links[0], area),
-        Head::Synonym => put_synonym(base, e, r, q),
+        Head::Body => put_body(base, p.target, &Area::of(area, &e)),
+        Head::Master => put_master(base, p.target, p.links[0], &Area::of(area, &e)),
+        Head::Variable => put_variable(base, p.target, p.links, &Area::of(area, &e)),
+        Head::Stranger => put_stranger(base, p.target, p.other, p.links[0], &Area::of(area, &e)),
+        Head::Synonym => put_synonym(base, e, p.target, p.other),
     }
 }
 
@@ -229,16 +219,14 @@ fn store_wiped(base: &mut [u8], e: Entry, r: u32)
 }
 
 // "Stores go: moved record, then new record; then path by path (ROOT as one path) prior's side, next's side; then wiping"
-fn store(base: &mut [u8], e: Entry, area: &[u8], p: Plan)
+fn store(base: &mut [u8], e: Entry, area: &[u8], p: &Plan)
     requires lies_in { LiesIn e (length base.old) }
     requires fields { Fields e }
-    requires plan_ok { PlanOk (length base.old) e p }
-    requires area_ok { AreaOk p.head e area.now }
-    ensures { base.new ≡ store_all base.old (plan_stores base.old e area.now p) }
+    requires plan_ok { PlanOk (length base.old) e p.now }
+    requires area_ok { AreaOk p.now.head e area.now }
+    ensures { base.new ≡ store_all base.old (plan_stores base.old e area.now p.now) }
 {
-    let head = p.head;
-    let links = p.links;
-    store_head(base, e, area, head, p.target, p.other, links);
+    store_head(base, e, area, p);
     store_words(base, &p.words[..p.count]);
     store_wiped(base, e, p.wiped);
 }
@@ -254,11 +242,11 @@ pub fn commit(base: &mut [u8], e: Entry, area: &[u8], p: Plan) -> bool
     ensures base_after { base.new ≡ cond (blocks_sealed (check_by e.edition) base.old (plan_stores base.old e area.now p)) (committed (check_by e.edition) base.old (plan_stores base.old e area.now p)) base.old }
 {
     let kind = Check::of(e.edition);
-    let blocks = touched(e, p);
+    let blocks = touched(e, &p);
     if !all_sealed(base, blocks.as_slice(), kind) {
         return false;
     }
-    store(base, e, area, p);
+    store(base, e, area, &p);
     seal_all(base, blocks.as_slice(), kind);
     true
 }

@@ -1,14 +1,14 @@
 -- The tests of the parameters and the ladder: they are its tests from Area on. And the laws by which the code asks them: a test on
 -- the area's keys is asked where the area has its length, one on the control key where that has its length, and one answer stands for the
 -- four tests of the reference.
-use Rattle.std.specs.List.{list_any, range_with_len}
-use Rattle.std.specs.Prelude.{ℕ, zero, suc, ◌+◌, ◌<◌, ◌≡◌, Bool, true, false, cond, not, ◌&&◌, ◌||◌, List, eqb, ltb, length}
-use Rattle.std.proofs.Common.{refl, sym, ap, ◌∙◌, arith}
+use Rattle.std.specs.List.{list_any, list_all, range_with_len}
+use Rattle.std.specs.Prelude.{ℕ, ◌<◌, ◌≡◌, Bool, true, false, cond, not, ◌&&◌, ◌||◌, List, [], ◌∷◌, eqb, ltb, length}
+use Rattle.std.proofs.Common.{refl, sym, ap, ◌∙◌}
 use Rattle.std.proofs.Math.Bool.{not-not, and-true}
 use borrow.Author.Tests.{eq-eqb, ne_eqb, ltb-true, not-false}
 use Rattle.octets.specs.Octets.{all_blank, same_bytes}
 use Rattle.octets.specs.Below.{all_below}
-use Rattle.octets.specs.BelowLaws.{all_below-turn, all_below-fails}
+use Rattle.octets.specs.BelowLaws.{list_all-below}
 use Rattle.octets.specs.TestLaws.{never_both, asked}
 use Rattle.octets.specs.TestLaws as tests
 use Rattle.terms.specs.declared.Status.{Status}
@@ -91,17 +91,16 @@ module _ (e : Entry) (area : List ℕ) where
 -- ---- the keys of an area, path by path
 
 -- a number of 0..n that f holds of is one below n that g fails of, where g is the converse of f
-any-from : (f g : ℕ → Bool) → ((k : ℕ) → g k ≡ not (f k)) → (n a m : ℕ) → a + n ≡ m → all_below g a ≡ true → list_any f (range_with_len a n) ≡ not (all_below g m)
-any-from f g c zero a m e h = let q : a ≡ m = omega (arith, e) in rw (← q, h) refl
-any-from f g c (suc n) a m e h = turn (f a) refl (λ k. any-from f g c n (a + 1) m (omega (arith, e)) (all_below-turn g a h (c a ∙ ap not k)))
+any-all : (f g : ℕ → Bool) → ((k : ℕ) → g k ≡ not (f k)) → (xs : List ℕ) → list_any f xs ≡ not (list_all g xs)
+any-all f g c [] = refl
+any-all f g c (x ∷ xs) = rw (c x, any-all f g c xs) (turn (f x) (list_all g xs))
   where
-    turn : (t : Bool) → f a ≡ t → (f a ≡ false → list_any f (range_with_len (a + 1) n) ≡ not (all_below g m)) → (t || list_any f (range_with_len (a + 1) n)) ≡ not (all_below g m)
-    turn false k more = more k
-    turn true k more = rw (all_below-fails g m a (omega (arith, e)) (c a ∙ ap not k)) refl
+    turn : (a b : Bool) → (a || not b) ≡ not (not a && b)
+    turn true b = refl
+    turn false b = refl
 
-any-upto : (f g : ℕ → Bool) → ((k : ℕ) → g k ≡ not (f k)) → (n : ℕ) → list_any f (range_with_len 0 n) ≡ not (all_below g n)
-unfolding all_below
-any-upto f g c n = any-from f g c n 0 n (omega arith) refl
+any-below : (f g : ℕ → Bool) → ((k : ℕ) → g k ≡ not (f k)) → (n : ℕ) → list_any f (range_with_len 0 n) ≡ not (all_below g n)
+any-below f g c n = any-all f g c (range_with_len 0 n) ∙ ap not (list_all-below g n)
 
 module _ (e : Entry) (area : List ℕ) where
   abbrev pub blank_on : ℕ → Bool
@@ -109,7 +108,7 @@ module _ (e : Entry) (area : List ℕ) where
 
   pub some_blank : is_master e ≡ false → list_any blank_on (range_with_len 0 e.count) ≡ blank_area_key e area
   unfolding blank_area_key
-  some_blank v = rw v (any-upto blank_on (λ k. not (blank_on k)) (λ k. refl) e.count)
+  some_blank v = rw v (any-below blank_on (λ k. not (blank_on k)) (λ k. refl) e.count)
 
 module _ (b : List ℕ) (e : Entry) (r : ℕ) (area : List ℕ) where
   abbrev pub same_stored : ℕ → Bool
@@ -117,7 +116,7 @@ module _ (b : List ℕ) (e : Entry) (r : ℕ) (area : List ℕ) where
 
   pub some_other : list_any (λ k. not (same_stored k)) (range_with_len 0 e.count) ≡ other_stored_key b e r area
   unfolding other_stored_key
-  some_other = any-upto (λ k. not (same_stored k)) same_stored (λ k. sym (not-not (same_stored k))) e.count
+  some_other = any-below (λ k. not (same_stored k)) same_stored (λ k. sym (not-not (same_stored k))) e.count
 
 -- ---- the answers put together
 

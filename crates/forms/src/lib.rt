@@ -5,7 +5,7 @@ ghost use Rattle.std.specs.Prelude.{◌≡◌, false, true, ◌&&◌, ◌||◌, 
 ghost use Rattle.octets.specs.Octets.{all_blank};
 ghost use Rattle.terms.specs.Terms.{key_of};
 ghost use Rattle.terms.specs.Status.{status_of};
-ghost use Rattle.records.specs.Areas.{is_master};
+ghost use Rattle.records.specs.Areas.{is_master, area_length};
 ghost use Rattle.records.specs.Fields.{Fields};
 ghost use Rattle.calls.specs.Ladder.{blank_area_key, other_area_key, other_stored_key};
 ghost use Rattle.forms.specs.FormLaws.{same_stored};
@@ -206,10 +206,12 @@ fn same_stored_key(record: &Record, area: &Area, j: usize) -> bool
 }
 
 // "10 for WRITV if an area key differs from the stored one"
-pub fn other_stored_key(record: &Record, area: &Area) -> bool
-    requires entry { record.now.entry.now ≡ area.now.entry.now }
-    requires e_value { is_master area.now.entry.now ≡ false }
-    ensures { result ≡ other_stored_key record.now.base.now area.now.entry.now record.now.number.0 area.now.bytes.now }
+pub fn other_stored_key(record: &Record, area: &[u8]) -> bool
+    requires fields { Fields record.now.entry.now }
+    requires e_value { is_master record.now.entry.now ≡ false }
+    requires area_len { length area.now ≡ area_length record.now.entry.now }
+    ensures { result ≡ other_stored_key record.now.base.now record.now.entry.now record.now.number.0 area.now }
 {
-    (0..usize::from(area.entry.count)).any(|j| !same_stored_key(record, area, j))
+    let given = Area::of(area, record.entry);
+    (0..usize::from(record.entry.count)).any(|j| !same_stored_key(record, &given, j))
 }

@@ -16,6 +16,7 @@ use plans::body_plan;
 use point_plans::NamedPath;
 use point_plans::held::{Paths, PointsOn};
 pub use points::Spot;
+use records::held::Set;
 use schema::{Entry, Path};
 use terms::{Key, RecordNo, Reference, Refusal};
 
@@ -35,7 +36,8 @@ pub fn writv(
 {
     seek(base, l, reference.0, Key::of(key), true)?;
     let r = RecordNo(reference.0);
-    if forms::other_stored_key(base, l.entry, r, area) {
+    let stored = Set::of(base, &l.entry).record(r);
+    if forms::other_stored_key(&stored, area) {
         return Err(Refusal::Keys);
     }
     settle(base, l.entry, area, body_plan(r), reference)

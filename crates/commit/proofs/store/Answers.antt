@@ -9,4 +9,4 @@ store_words-requires c =
 pub returns : goal.returns
 returns c =
     let a = c.args in
-    plan_stored a.base.now a.e a.area.now a.p _ _ _ c.store_head.ensures c.store_words.ensures c.store_wiped.ensures
+    plan_stored a.base.now a.e a.area.now a.p.now _ _ _ c.store_head.ensures c.store_words.ensures c.store_wiped.ensures

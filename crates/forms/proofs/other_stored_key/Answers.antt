@@ -8,7 +8,7 @@ use Rattle.forms.proofs.other_stored_key.Goals as goal
 pub returns : goal.returns
 returns c =
     let r = c.args.record.now in
-    let s = c.args.area.now in
+    let s = c.of-given.result in
     let n = c.from.result in
     any_from_yields_List (λ k. not (same_stored r.base.now s.entry.now r.number.0 s.bytes.now k)) _ _ _ c.any.ensures.ran (YieldsList-from_range 0 n n refl (omega arith)) (λ x b q k. search (rules, tests))
-    ∙ rw c.from.ensures (some_other r.base.now s.entry.now r.number.0 s.bytes.now)
+    ∙ rw (c.from.ensures, c.of-given.ensures.0, c.of-given.ensures.1) (some_other r.base.now r.entry.now r.number.0 c.args.area.now)

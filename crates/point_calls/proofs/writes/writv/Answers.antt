@@ -1,4 +1,5 @@
-use mathlib.Core.Path.{refl, sym, ◌∙◌}
+use mathlib.Core.Path.{refl}
+use borrow.Author.Rules.{rules}
 use Rattle.std.proofs.lemmas.Result.{err_from_is_err_and}
 use Rattle.plans.proofs.BodyLaws.{body_ok}
 use Rattle.point_calls.specs.PathLaws.{writv-call}
@@ -13,12 +14,12 @@ returns-in_err-seek c =
 
 pub returns-then-other_stored_key : goal.returns-then-other_stored_key
 returns-then-other_stored_key c =
-    writv-refused _ _ _ _ _ _ _ _ (seen _ _ _ _ _ _ _ c.seek.ensures c.of.ensures.0 c.in_ok-seek.was) (sym c.other_stored_key.ensures ∙ c.if-other_stored_key.true)
+    writv-refused _ _ _ _ _ _ _ _ (seen _ _ _ _ _ _ _ c.seek.ensures c.of.ensures.0 c.in_ok-seek.was) (search rules)
 
 pub settle-requires-clause-plan_ok : goal.settle-requires-clause-plan_ok
 settle-requires-clause-plan_ok c = rw c.body_plan.ensures (body_ok _ c.args.area.now _ _ c.requires.in_set c.requires.area_len).0
 
 pub returns : goal.returns
 returns c =
-    writv-ends _ _ _ _ _ _ _ _ (seen _ _ _ _ _ _ _ c.seek.ensures c.of.ensures.0 c.in_ok-seek.was) _ (sym c.other_stored_key.ensures ∙ c.if-other_stored_key.false)
+    writv-ends _ _ _ _ _ _ _ _ (seen _ _ _ _ _ _ _ c.seek.ensures c.of.ensures.0 c.in_ok-seek.was) _ (search rules)
     c.body_plan.ensures (c.settle.ensures c.args.reference.0)
