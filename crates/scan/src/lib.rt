@@ -81,13 +81,3 @@ pub fn lowest_free(base: &[u8], e: Entry) -> Option<RecordNo>
 {
     lowest_free_in(&Set::of(base, &e))
 }
-
-// "The next live one above the reference, 0 to begin", if there is one.
-pub fn next_live(base: &[u8], e: Entry, from: u32) -> Option<RecordNo>
-    requires lies_in { LiesIn e (length base.now) }
-    requires le_size { 4 ≤ e.size }
-    requires from_le_records { from ≤ e.records }
-    ensures { result ≡ record_up_to e.records (next_live base.now e from) }
-{
-    next_live_in(&Set::of(base, &e), from)
-}
