@@ -1,9 +1,10 @@
-// The calls on a set of points. In the order of a call, and of reading: `paths`, `sight`, then `reads` or `writes`.
+// The calls on a set of points. In the order of a call, and of reading: `paths`, `sight`, then `reads` or `writes`; of a path `held`.
 #![tactic(auto)]
 
 use schema::{Entry, Path};
 use terms::EntryNo;
 
+pub mod held;
 pub mod paths;
 pub mod reads;
 pub mod sight;

@@ -8,15 +8,14 @@ ghost use Rattle.schema.specs.Place.{InSet};
 ghost use Rattle.records.specs.Areas.{area_length};
 ghost use Rattle.points.specs.Chains.{read_damaged};
 ghost use Rattle.schema.specs.Naming.{link_of};
-ghost use Rattle.records.specs.InBase.{IsPath, Reached};
+ghost use Rattle.records.specs.InBase.{IsPath};
 ghost use Rattle.point_calls.specs.OnPath.{Seen, read_by, pointer_on, AnswersOnPath};
 
 use super::Located;
-use super::sight::seek;
+use super::held::HeldPath;
 use ends::give;
-use masters::held::Masters;
 use point_plans::damage::uneven_ends;
-use point_plans::held::PointsOn;
+use schema::Path;
 use terms::{Key, RecordNo, Reference, Refusal};
 
 // READD: the referenced record.
@@ -33,50 +32,16 @@ pub fn readd(
     requires in_set { InSet l.entry reference.0 }
     ensures { AnswersOnPath Readd l.entry l.path l.masters reference.0 key.now area.old base.now (status_of result) (reference_returned reference.0 result) area.new base.now }
 {
-    seek(base, l, reference.0, Key::of(key), true)?;
+    let path = HeldPath::of(base, &l);
+    path.seek(reference.0, Key::of(key), true)?;
     Ok(give(base, l.entry, Some(RecordNo(reference.0)), area))
 }
 
-// The pointer that a read uses: "READV first or next, READR last or prior", the first of each with LKxx.
-fn pointer_on(base: &[u8], l: Located, m: RecordNo, r: u32, linked: bool, back: bool) -> u32
-    requires reached { Reached l.entry l.path l.masters (length base.now) }
-    requires in_set { InSet l.masters m.0 }
-    requires in_set_2 { linked ≡ false → InSet l.entry r }
-    ensures { result ≡ pointer_on back base.now l.entry l.path l.masters m.0 r linked }
-{
-    if linked {
-        let master = Masters::of(base, &l.masters).at(m).record();
-        if back {
-            return master.last_on(l.path);
-        }
-        return master.first_on(l.path);
-    }
-    let point = PointsOn::of(base, &l.entry, l.path).record(RecordNo(r));
-    if back {
-        return point.prior_on(l.path);
-    }
-    point.next_on(l.path)
-}
-
-// The final 16 of a read that uses the pointer n.
-fn read_damaged(base: &[u8], l: Located, m: RecordNo, key: Key, linked: bool, n: u32) -> bool
-    requires reached { Reached l.entry l.path l.masters (length base.now) }
-    requires in_set { InSet l.masters m.0 }
-    requires len_value { key.len ≡ l.masters.key }
-    ensures { result ≡ read_damaged base.now l.entry l.path l.masters m.0 (key_of key) linked n }
-{
-    let master = Masters::of(base, &l.masters).at(m).record().bytes();
-    let uneven = uneven_ends(master, l.path.link as usize);
-    let bad = PointsOn::of(base, &l.entry, l.path).bad_neighbour(key, n);
-    (linked & uneven) | bad
-}
-
 // Is the reference LKxx of the path?
-fn is_link(l: Located, reference: Reference) -> bool
-    ensures { result ≡ eqb reference.0 (link_of l.path) }
+fn is_link(p: Path, reference: Reference) -> bool
+    ensures { result ≡ eqb reference.0 (link_of p) }
 {
-    let link = l.path.reference();
-    reference.0 == link.0
+    reference == p.reference()
 }
 
 // The record that a pointer leads to: 0 is none.
@@ -90,29 +55,61 @@ fn pointed(n: u32) -> Option<RecordNo>
     Some(RecordNo(n))
 }
 
-// The rest of READV or READR, once the named master m and the referenced record are known.
-fn read_from(
-    l: Located,
-    m: RecordNo,
-    reference: Reference,
-    key: Key,
-    back: bool,
-    area: &mut [u8],
-    base: &[u8],
-) -> Result<Reference, Refusal>
-    requires path { IsPath l.entry l.path l.masters (length base.now) }
-    requires len_value { key.len ≡ l.masters.key }
-    requires area_len { length area.old ≡ area_length l.entry }
-    requires fact { (reference.0 ≡ link_of l.path) ⊎ InSet l.entry reference.0 }
-    requires seen { Seen base.now l.entry l.path l.masters reference.0 (key_of key) (not (eqb reference.0 (link_of l.path))) m }
-    ensures { AnswersOnPath (read_by back) l.entry l.path l.masters reference.0 (key_of key) area.old base.now (status_of result) (reference_returned reference.0 result) area.new base.now }
-{
-    let linked = is_link(l, reference);
-    let n = pointer_on(base, l, m, reference.0, linked, back);
-    if read_damaged(base, l, m, key, linked, n) {
-        return Err(Refusal::Damg);
+impl<'a> HeldPath<'a> {
+    // The pointer that a read uses: "READV first or next, READR last or prior", the first of each with LKxx.
+    fn pointer_on(&self, m: RecordNo, r: u32, linked: bool, back: bool) -> u32
+        requires in_set { InSet self.now.masters.now m.0 }
+        requires in_set_2 { linked ≡ false → InSet self.now.entry.now r }
+        ensures { result ≡ pointer_on back self.now.base.now self.now.entry.now self.now.path self.now.masters.now m.0 r linked }
+    {
+        if linked {
+            let master = self.owners().at(m).record();
+            if back {
+                return master.last_on(self.path);
+            }
+            return master.first_on(self.path);
+        }
+        let point = self.points().record(RecordNo(r));
+        if back {
+            return point.prior_on(self.path);
+        }
+        point.next_on(self.path)
     }
-    Ok(give(base, l.entry, pointed(n), area))
+
+    // The final 16 of a read that uses the pointer n.
+    fn read_damaged(&self, m: RecordNo, key: Key, linked: bool, n: u32) -> bool
+        requires in_set { InSet self.now.masters.now m.0 }
+        requires len_value { key.len ≡ self.now.masters.now.key }
+        ensures { result ≡ read_damaged self.now.base.now self.now.entry.now self.now.path self.now.masters.now m.0 (key_of key) linked n }
+    {
+        let master = self.owners().at(m).record().bytes();
+        let uneven = uneven_ends(master, self.path.link as usize);
+        let bad = self.points().bad_neighbour(key, n);
+        (linked & uneven) | bad
+    }
+
+    // The rest of READV or READR, once the named master m and the referenced record are known.
+    fn read_from(
+        &self,
+        m: RecordNo,
+        reference: Reference,
+        key: Key,
+        back: bool,
+        area: &mut [u8],
+    ) -> Result<Reference, Refusal>
+        requires len_value { key.len ≡ self.now.masters.now.key }
+        requires area_len { length area.old ≡ area_length self.now.entry.now }
+        requires fact { (reference.0 ≡ link_of self.now.path) ⊎ InSet self.now.entry.now reference.0 }
+        requires seen { Seen self.now.base.now self.now.entry.now self.now.path self.now.masters.now reference.0 (key_of key) (not (eqb reference.0 (link_of self.now.path))) m }
+        ensures { AnswersOnPath (read_by back) self.now.entry.now self.now.path self.now.masters.now reference.0 (key_of key) area.old self.now.base.now (status_of result) (reference_returned reference.0 result) area.new self.now.base.now }
+    {
+        let linked = is_link(self.path, reference);
+        let n = self.pointer_on(m, reference.0, linked, back);
+        if self.read_damaged(m, key, linked, n) {
+            return Err(Refusal::Damg);
+        }
+        Ok(give(self.base, *self.entry, pointed(n), area))
+    }
 }
 
 // READV, and READR where `back`: "READV with LKxx gives the first record, with a number the one after it; READR the last, or the one
@@ -132,7 +129,8 @@ pub fn read_along(
     ensures { AnswersOnPath (read_by back) l.entry l.path l.masters reference.0 key.now area.old base.now (status_of result) (reference_returned reference.0 result) area.new base.now }
 {
     let k = Key::of(key);
-    let linked = is_link(l, reference);
-    let m = seek(base, l, reference.0, k, !linked)?;
-    read_from(l, m, reference, k, back, area, base)
+    let linked = is_link(l.path, reference);
+    let path = HeldPath::of(base, &l);
+    let m = path.seek(reference.0, k, !linked)?;
+    path.read_from(m, reference, k, back, area)
 }

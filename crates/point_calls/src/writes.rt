@@ -10,11 +10,11 @@ ghost use Rattle.records.specs.InBase.{IsPath, IsPathAmong};
 ghost use Rattle.point_calls.specs.OnPath.{add_at, is_beside, Spotted, AnswersOnPath, AnswersAmong};
 
 use super::Located;
-use super::sight::seek;
+use super::held::HeldPath;
 use ends::settle;
 use plans::body_plan;
 use point_plans::NamedPath;
-use point_plans::held::{Paths, PointsOn};
+use point_plans::held::Paths;
 pub use points::Spot;
 use records::held::Set;
 use schema::{Entry, Path};
@@ -34,7 +34,8 @@ pub fn writv(
     requires in_set { InSet l.entry reference.0 }
     ensures { AnswersOnPath Writv l.entry l.path l.masters reference.0 key.now area.now base.old (status_of result) (reference_returned reference.0 result) area.now base.new }
 {
-    seek(base, l, reference.0, Key::of(key), true)?;
+    let path = HeldPath::of(base, &l);
+    path.seek(reference.0, Key::of(key), true)?;
     let r = RecordNo(reference.0);
     let stored = Set::of(base, &l.entry).record(r);
     if forms::other_stored_key(&stored, area) {
@@ -70,7 +71,8 @@ pub fn add_at(
     requires spotted { Spotted spot l.entry l.path reference.0 }
     ensures { AnswersAmong (add_at spot) l.entry l.on l.path l.masters all reference.0 key.now area.now base.old (status_of result) (reference_returned reference.0 result) area.now base.new }
 {
-    let master = seek(base, l, reference.0, Key::of(key), is_beside(spot))?;
+    let path = HeldPath::of(base, &l);
+    let master = path.seek(reference.0, Key::of(key), is_beside(spot))?;
     let named = NamedPath { on: l.on, master };
     let paths = Paths::of(base, &l.entry, &all);
     let plan = paths.add(area, spot, named)?;
@@ -103,9 +105,10 @@ pub fn delvd(
     requires in_set { InSet l.entry reference.0 }
     ensures { AnswersAmong Delvd l.entry l.on l.path l.masters all reference.0 key.now area.now base.old (status_of result) (reference_returned reference.0 result) area.now base.new }
 {
-    let master = seek(base, l, reference.0, Key::of(key), true)?;
+    let path = HeldPath::of(base, &l);
+    let master = path.seek(reference.0, Key::of(key), true)?;
     let r = RecordNo(reference.0);
-    let point = PointsOn::of(base, &l.entry, l.path).record(r);
+    let point = path.points().record(r);
     let after = or_link(l.path, point.prior_on(l.path));
     let named = NamedPath { on: l.on, master };
     let paths = Paths::of(base, &l.entry, &all);
