@@ -16,7 +16,6 @@ use plans::body_plan;
 use point_plans::NamedPath;
 use point_plans::held::Paths;
 pub use points::Spot;
-use records::held::Set;
 use schema::{Entry, Path};
 use terms::{Key, RecordNo, Reference, Refusal};
 
@@ -37,7 +36,7 @@ pub fn writv(
     let path = HeldPath::of(base, &l);
     path.seek(reference.0, Key::of(key), true)?;
     let r = RecordNo(reference.0);
-    let stored = Set::of(base, &l.entry).record(r);
+    let stored = path.points().record(r);
     if forms::other_stored_key(&stored, area) {
         return Err(Refusal::Keys);
     }
