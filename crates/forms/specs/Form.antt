@@ -1,14 +1,16 @@
 -- The tests 7 to 11 of document 01, "Status numbers", that look at a call's parameters alone: area, control key and reference, once set
 -- and path are known. Which of them a call has is its rungs; the order is the ladder's.
 use Rattle.std.specs.Prelude.{ℕ, cond, not, ◌&&◌, ◌||◌, Bool, List, eqb, leb, length}
-use Rattle.octets.specs.Octets.{all_blank}
+use Rattle.octets.specs.Octets.{all_blank, same_bytes}
 use Rattle.terms.specs.Terms.{end_ref}
 use Rattle.terms.specs.declared.Status.{Status}
 use Rattle.terms.specs.declared.Status.TheVariants.{Done, Area, Klen, Bctl, Keys, Ivrp}
 use Rattle.terms.specs.declared.Operation.{Operation}
 use Rattle.schema.specs.declared.Entry.{Entry}
 use Rattle.schema.specs.Place.{in_set}
-use Rattle.records.specs.Areas.{area_length}
+use Rattle.schema.specs.Decode.{path_of}
+use Rattle.records.specs.Records.{key_on}
+use Rattle.records.specs.Areas.{area_length, area_key_on}
 use Rattle.calls.specs.Ladder.{blank_area_key, other_area_key, rule_of}
 use Rattle.calls.specs.Ladder.Rung.{AreaLength, KeyLength, AreaKeysNotBlank, AreaKeySame, ReadForm, SweepForm, LastForm, NumberForm}
 use Rattle.forms.specs.declared.Rungs.{Rungs}
@@ -53,3 +55,7 @@ decided control blank other reference = cond control Bctl (cond blank Bctl (cond
 abbrev pub wrong_reference : Rungs → Entry → ℕ → ℕ → Bool
 wrong_reference q e link ref =
     q.link && not (eqb ref link || in_set e ref) || (q.sweep && not (leb ref e.records) || (q.last && eqb ref end_ref || q.number && not (in_set e ref)))
+
+-- the area's key on one path is the stored one
+abbrev pub same_stored : List ℕ → Entry → ℕ → List ℕ → ℕ → Bool
+same_stored b e r area k = same_bytes (area_key_on e area k) (key_on b e r (path_of e k))

@@ -15,8 +15,6 @@ use Rattle.terms.specs.declared.Status.{Status}
 use Rattle.terms.specs.declared.Status.TheVariants.{Done, Area, Klen, Ivrp}
 use Rattle.terms.specs.declared.Operation.{Operation}
 use Rattle.schema.specs.declared.Entry.{Entry}
-use Rattle.schema.specs.Decode.{path_of}
-use Rattle.records.specs.Records.{key_on}
 use Rattle.records.specs.Areas.{is_master, area_length, area_master_key, area_key_on}
 use Rattle.calls.specs.Call.{Call, one_of, master_calls, variable_calls}
 use Rattle.calls.proofs.OperationLaws.{each_operation, all_of}
@@ -24,7 +22,7 @@ use Rattle.calls.specs.Scene.{Scene}
 use Rattle.schema.specs.Naming.{link_of}
 use Rattle.calls.specs.Ladder.{wrong_kind, blank_area_key, other_area_key, other_stored_key, form_rungs, refusal}
 use Rattle.forms.specs.declared.Rungs.{Rungs}
-use Rattle.forms.specs.Form.{rungs_of, reference_status, form_status, decided, wrong_reference}
+use Rattle.forms.specs.Form.{rungs_of, reference_status, form_status, decided, wrong_reference, same_stored}
 
 -- ---- the ladder
 
@@ -111,12 +109,9 @@ module _ (e : Entry) (area : List ℕ) where
   some_blank v = rw v (any-below blank_on (λ k. not (blank_on k)) (λ k. refl) e.count)
 
 module _ (b : List ℕ) (e : Entry) (r : ℕ) (area : List ℕ) where
-  abbrev pub same_stored : ℕ → Bool
-  same_stored k = same_bytes (area_key_on e area k) (key_on b e r (path_of e k))
-
-  pub some_other : list_any (λ k. not (same_stored k)) (range_with_len 0 e.count) ≡ other_stored_key b e r area
+  pub some_other : list_any (λ k. not (same_stored b e r area k)) (range_with_len 0 e.count) ≡ other_stored_key b e r area
   unfolding other_stored_key
-  some_other = any-below (λ k. not (same_stored k)) same_stored (λ k. sym (not-not (same_stored k))) e.count
+  some_other = any-below (λ k. not (same_stored b e r area k)) (same_stored b e r area) (λ k. sym (not-not (same_stored b e r area k))) e.count
 
 -- ---- the answers put together
 

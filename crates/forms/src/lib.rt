@@ -8,8 +8,7 @@ ghost use Rattle.terms.specs.Status.{status_of};
 ghost use Rattle.records.specs.Areas.{is_master, area_length};
 ghost use Rattle.records.specs.Fields.{Fields};
 ghost use Rattle.calls.specs.Ladder.{blank_area_key, other_area_key, other_stored_key};
-ghost use Rattle.forms.specs.FormLaws.{same_stored};
-ghost use Rattle.forms.specs.Form.{rungs_of, form_status, decided, wrong_reference};
+ghost use Rattle.forms.specs.Form.{rungs_of, form_status, decided, wrong_reference, same_stored};
 
 use areas::given::Area;
 use records::held::Record;

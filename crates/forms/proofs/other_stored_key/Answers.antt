@@ -2,7 +2,8 @@
 use Rattle.std.proofs.Common.{rules, tests, refl, ◌∙◌, arith, not}
 use Rattle.std.proofs.lemmas.Iterator.{YieldsList-from_range}
 use Rattle.std.proofs.lemmas.Iterator.Search.{any_from_yields_List}
-use Rattle.forms.specs.FormLaws.{same_stored, some_other}
+use Rattle.forms.specs.FormLaws.{some_other}
+use Rattle.forms.specs.Form.{same_stored}
 use Rattle.forms.proofs.other_stored_key.Goals as goal
 
 pub returns : goal.returns
