@@ -102,14 +102,20 @@ pub fn call(
 ) -> Answer
     ensures { IsOutcome (call_of op.now set.now reference.0 path.now key.now area.old schema.now base.old) (record { status = result.status; reference = result.reference.0; area = area.new; base = base.new }) }
 {
-    let Some(t) = decode::decode(schema) else {
-        return Answer::of(Err(Refusal::Schm), reference);
+    let ended = match decode::decode(schema) {
+        Some(t) => under(
+            t,
+            Operation::from(op),
+            set,
+            reference,
+            path,
+            key,
+            area,
+            base,
+        ),
+        None => Err(Refusal::Schm),
     };
-    let o = Operation::from(op);
-    Answer::of(
-        under(t, o, set, reference, path, key, area, base),
-        reference,
-    )
+    Answer::of(ended, reference)
 }
 
 // Status and reference as the two halves of one word, for C.
