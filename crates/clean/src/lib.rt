@@ -33,6 +33,7 @@ pub fn checks_true(base: &[u8], t: Schema) -> bool
 // A live record has three zeros behind its state; any other record is all zero, so that its state is 0.
 #[tactic(auto, using(crate::specs::CleanLaws::clean_live, crate::specs::CleanLaws::clean_free))]
 fn record_clean(record: &Record) -> bool
+    requires { 4 ≤ record.now.entry.now.size }
     ensures { result ≡ record_clean record.now.base.now record.now.entry.now record.now.number.0 }
 {
     let part = record.bytes();
@@ -43,6 +44,7 @@ fn record_clean(record: &Record) -> bool
 }
 
 fn records_clean(set: &Set) -> bool
+    requires { 4 ≤ set.now.entry.now.size }
     ensures { result ≡ each_record set.now.entry.now (record_clean set.now.base.now set.now.entry.now) }
 {
     (0..set.entry.records).all(|k| record_clean(&set.record(RecordNo(k + 1))))
@@ -64,6 +66,7 @@ fn leftovers_clean(set: &Set) -> bool
 
 // "states 0 or 1; free records, fillers and leftovers zero"
 pub fn set_clean(set: &Set) -> bool
+    requires { 4 ≤ set.now.entry.now.size }
     ensures { result ≡ set_clean set.now.base.now set.now.entry.now }
 {
     records_clean(set) && leftovers_clean(set)

@@ -20,6 +20,7 @@ ghost use Rattle.master_plans.specs.Shape.{root_side, Shaped, OneLonger, StandsF
 use masters::held::{Master, Masters};
 use plans::{Head, Plan, Word};
 use records::Link;
+use records::held::Set;
 use scan::lowest_free;
 use schema::layout::{entry_of, part_of, path_of, sets};
 use schema::{Entry, Path, Schema};
@@ -126,7 +127,7 @@ pub fn add_master(masters: &Masters, h: RecordNo, last: RecordNo) -> Result<Plan
     if !masters.at(h).record().is_live() {
         return Ok(start(Head::Master, h, h, 0));
     }
-    let free = lowest_free(masters.base, *masters.entry).ok_or(Refusal::Full)?;
+    let free = lowest_free(&Set::of(masters.base, masters.entry)).ok_or(Refusal::Full)?;
     add_beside(masters, h, free, last)
 }
 

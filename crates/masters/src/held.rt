@@ -15,7 +15,6 @@ pub struct Masters<'a> {
     pub entry: &'a Entry,
     ghost lies_in: { LiesIn entry.now (length base.now) },
     ghost master_ok: { MasterOk entry.now },
-    ghost some: { 1 ≤ entry.now.records },
 }
 
 #[derive(Clone, Copy)]
@@ -33,7 +32,6 @@ impl<'a> Masters<'a> {
     pub fn of(base: &'a [u8], entry: &'a Entry) -> Masters<'a>
         requires lies_in { LiesIn entry.now (length base.now) }
         requires master_ok { MasterOk entry.now }
-        requires le_records { 1 ≤ entry.now.records }
         ensures { (result.base.now ≡ base.now) × (result.entry.now ≡ entry.now) }
     {
         Masters { base, entry }

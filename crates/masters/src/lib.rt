@@ -6,7 +6,7 @@ use terms::RecordNo;
 pub mod held;
 pub mod walk;
 
-// What the search for a key finds. Kept: it has three answers, which the definitions of the search name; `walk::master` gives them as a
+// What the search for a key finds. Kept: it has three answers, which the definitions of the search name; `Masters::named` gives them as a
 // Result.
 #[derive(Clone, Copy, PartialEq, Eq)]
 pub enum Found {

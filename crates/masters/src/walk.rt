@@ -61,7 +61,8 @@ impl<'a> Masters<'a> {
 
     // The search for a key.
     pub fn find(&self, k: Key) -> Sought
-        requires { k.len ≡ self.now.entry.now.key }
+        requires le_records { 1 ≤ self.now.entry.now.records }
+        requires len_value { k.len ≡ self.now.entry.now.key }
         ensures found_value { result.found ≡ find self.now.base.now self.now.entry.now (key_of k) }
         ensures last_value { result.last.0 ≡ last_sought self.now.base.now self.now.entry.now (key_of k) }
     {
@@ -77,7 +78,8 @@ impl<'a> Masters<'a> {
 
     // "find the named master (16, then 12)"
     pub fn named(&self, k: Key) -> Result<RecordNo, Refusal>
-        requires { k.len ≡ self.now.entry.now.key }
+        requires le_records { 1 ≤ self.now.entry.now.records }
+        requires len_value { k.len ≡ self.now.entry.now.key }
         ensures { result ≡ named_master (find self.now.base.now self.now.entry.now (key_of k)) }
     {
         match self.find(k).found {
@@ -86,47 +88,4 @@ impl<'a> Masters<'a> {
             Found::Missing => Err(Refusal::Mrnf),
         }
     }
-}
-
-// The home of the key that the record holds.
-pub fn own_home(base: &[u8], e: Entry, r: RecordNo) -> RecordNo
-    requires lies_in { LiesIn e (length base.now) }
-    requires master_ok { MasterOk e }
-    requires in_set { InSet e r.0 }
-    ensures { result.0 ≡ own_home base.now e r.0 }
-{
-    Masters::of(base, &e).at(r).own_home()
-}
-
-// Is the record live, and at its own home?
-pub fn held_by_own(base: &[u8], e: Entry, h: RecordNo) -> bool
-    requires lies_in { LiesIn e (length base.now) }
-    requires master_ok { MasterOk e }
-    requires in_set { InSet e h.0 }
-    ensures { result ≡ held_by_own base.now e h.0 }
-{
-    Masters::of(base, &e).at(h).is_at_home()
-}
-
-// The search for a key.
-pub fn find(base: &[u8], e: Entry, k: Key) -> Sought
-    requires lies_in { LiesIn e (length base.now) }
-    requires master_ok { MasterOk e }
-    requires le_records { 1 ≤ e.records }
-    requires len_value { k.len ≡ e.key }
-    ensures found_value { result.found ≡ find base.now e (key_of k) }
-    ensures last_value { result.last.0 ≡ last_sought base.now e (key_of k) }
-{
-    Masters::of(base, &e).find(k)
-}
-
-// "find the named master (16, then 12)"
-pub fn master(base: &[u8], e: Entry, k: Key) -> Result<RecordNo, Refusal>
-    requires lies_in { LiesIn e (length base.now) }
-    requires master_ok { MasterOk e }
-    requires le_records { 1 ≤ e.records }
-    requires len_value { k.len ≡ e.key }
-    ensures { result ≡ named_master (find base.now e (key_of k)) }
-{
-    Masters::of(base, &e).named(k)
 }

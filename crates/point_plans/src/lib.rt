@@ -27,7 +27,7 @@ use held::{OwnedPoint, Paths};
 use plans::{Head, Plan};
 use points::Spot;
 use records::Link;
-use scan::lowest_free_in;
+use scan::lowest_free;
 use terms::{RecordNo, Refusal};
 
 pub mod damage;
@@ -48,7 +48,7 @@ impl<'a> OwnedPoint<'a> {
     fn new_place(&self, prior: u32) -> Option<RecordNo>
         ensures { result ≡ record_up_to self.now.entry.now.records (new_place self.now.base.now self.now.entry.now prior) }
     {
-        lowest_free_in(&self.set())
+        lowest_free(&self.set())
     }
 
     // The plan of an add, for the record that it takes.

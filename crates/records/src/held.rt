@@ -1,5 +1,5 @@
-// A set as a data base holds it, and a record of one. That the set's records lie in the data base, that a state and three zeros stand in front of
-// each, and that the record is one of its set, are facts of the types: who has a set or a record proves nothing of them.
+// A set as a data base holds it, and a record of one. That the set's records lie in the data base, that each has a state, and that the record
+// is one of its set, are facts of the types: who has a set or a record proves nothing of them.
 ghost use Rattle.std.specs.Prelude.{◌≡◌, ◌+◌, ◌≤◌, length};
 ghost use Rattle.octets.specs.Octets.{run, word_at, same_bytes};
 ghost use Rattle.terms.specs.Terms.{key_of, key_from};
@@ -14,7 +14,7 @@ pub struct Set<'a> {
     pub base: &'a [u8],
     pub entry: &'a Entry,
     ghost lies_in: { LiesIn entry.now (length base.now) },
-    ghost front: { 4 ≤ entry.now.size },
+    ghost front: { 1 ≤ entry.now.size },
 }
 
 #[derive(Clone, Copy)]
@@ -23,7 +23,7 @@ pub struct Record<'a> {
     pub entry: &'a Entry,
     pub number: RecordNo,
     ghost lies_in: { LiesIn entry.now (length base.now) },
-    ghost front: { 4 ≤ entry.now.size },
+    ghost front: { 1 ≤ entry.now.size },
     ghost in_set: { InSet entry.now number.0 },
 }
 
@@ -31,7 +31,7 @@ impl<'a> Set<'a> {
     // The set of an entry, whose records lie in the data base.
     pub fn of(base: &'a [u8], entry: &'a Entry) -> Set<'a>
         requires lies_in { LiesIn entry.now (length base.now) }
-        requires front { 4 ≤ entry.now.size }
+        requires front { 1 ≤ entry.now.size }
         ensures { (result.base.now ≡ base.now) × (result.entry.now ≡ entry.now) }
     {
         Set { base, entry }

@@ -54,7 +54,7 @@ fn scan(set: &Set, from: u32, live: bool) -> Option<RecordNo>
 }
 
 // "The lowest-numbered free record", if there is one.
-pub fn lowest_free_in(set: &Set) -> Option<RecordNo>
+pub fn lowest_free(set: &Set) -> Option<RecordNo>
     requires { 1 ≤ set.now.entry.now.records }
     ensures { result ≡ record_up_to set.now.entry.now.records (lowest_free set.now.base.now set.now.entry.now) }
 {
@@ -62,7 +62,7 @@ pub fn lowest_free_in(set: &Set) -> Option<RecordNo>
 }
 
 // "The next live one above the reference, 0 to begin", if there is one.
-pub fn next_live_in(set: &Set, from: u32) -> Option<RecordNo>
+pub fn next_live(set: &Set, from: u32) -> Option<RecordNo>
     requires { from ≤ set.now.entry.now.records }
     ensures { result ≡ record_up_to set.now.entry.now.records (next_live set.now.base.now set.now.entry.now from) }
 {
@@ -70,14 +70,4 @@ pub fn next_live_in(set: &Set, from: u32) -> Option<RecordNo>
         return None;
     }
     scan(set, from, true)
-}
-
-// "The lowest-numbered free record", if there is one.
-pub fn lowest_free(base: &[u8], e: Entry) -> Option<RecordNo>
-    requires lies_in { LiesIn e (length base.now) }
-    requires le_size { 4 ≤ e.size }
-    requires le_records { 1 ≤ e.records }
-    ensures { result ≡ record_up_to e.records (lowest_free base.now e) }
-{
-    lowest_free_in(&Set::of(base, &e))
 }

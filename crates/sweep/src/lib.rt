@@ -12,7 +12,7 @@ ghost use Rattle.sweep.specs.Swept.{swept_at, formed_any, SweptOn};
 
 use ends::give;
 use records::held::Set;
-use scan::next_live_in;
+use scan::next_live;
 use schema::layout::entry_of;
 use schema::{Entry, Schema};
 use terms::{Operation, Reference, Refusal};
@@ -42,5 +42,5 @@ pub fn rdnxt(e: Entry, reference: Reference, area: &mut [u8], base: &[u8]) -> Re
     requires area_len { length area.old ≡ area_length e }
     ensures { SweptOn e reference.0 area.old base.now Done result.0 area.new base.now }
 {
-    give(base, e, next_live_in(&Set::of(base, &e), reference.0), area)
+    give(base, e, next_live(&Set::of(base, &e), reference.0), area)
 }

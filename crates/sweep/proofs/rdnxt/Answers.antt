@@ -12,7 +12,7 @@ of-requires-clause-front c = (set_in_lem c.requires.set.set).head
 pub give-requires-clause-in_set : goal.give-requires-clause-in_set
 give-requires-clause-in_set c =
     let a = c.args in
-    given-within a.e _ (omega (arith, lowest_from_ge (is_live a.base.now a.e) (a.e.records - a.reference.0) (a.reference.0 + 1))) (rw (c.of.ensures.0, c.of.ensures.1) at c.next_live_in.ensures)
+    given-within a.e _ (omega (arith, lowest_from_ge (is_live a.base.now a.e) (a.e.records - a.reference.0) (a.reference.0 + 1))) (rw (c.of.ensures.0, c.of.ensures.1) at c.next_live.ensures)
 
 pub returns : goal.returns
-returns c = sweep-ends c.args.e _ _ _ _ (given-number c.args.e _ (rw (c.of.ensures.0, c.of.ensures.1) at c.next_live_in.ensures)) c.give.ensures
+returns c = sweep-ends c.args.e _ _ _ _ (given-number c.args.e _ (rw (c.of.ensures.0, c.of.ensures.1) at c.next_live.ensures)) c.give.ensures

@@ -1,9 +1,9 @@
--- `scan::next_live_in` meets its contract: above the last record there is none, and below it the scan decides.
+-- `scan::next_live` meets its contract: above the last record there is none, and below it the scan decides.
 use Rattle.std.proofs.Common.{◌+◌, ◌-◌, arith}
 use Rattle.octets.specs.BelowLaws.{lowest_from_ge}
 use Rattle.records.specs.Records.{is_live}
 use Rattle.schema.specs.Numbers.{record_nowhere}
-use Rattle.scan.proofs.next_live_in.Goals as goal
+use Rattle.scan.proofs.next_live.Goals as goal
 
 pub returns-then-from-set : goal.returns-then-from-set
 returns-then-from-set c =

@@ -1,7 +1,7 @@
--- `scan::lowest_free_in` meets its contract: the scan for a free record from the first on.
+-- `scan::lowest_free` meets its contract: the scan for a free record from the first on.
 use Rattle.std.proofs.Math.Nat.{sub-zero}
 use Rattle.scan.specs.Scan.{lowest_free}
-use Rattle.scan.proofs.lowest_free_in.Goals as goal
+use Rattle.scan.proofs.lowest_free.Goals as goal
 
 pub returns : goal.returns
 unfolding lowest_free
