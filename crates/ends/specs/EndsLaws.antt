@@ -29,9 +29,6 @@ pub refused-ends : (x : Scene) (c : Call) (s t : Status) → s ≡ t → 0 < sta
 unfolding answered
 refused-ends x c s t e h = rw (e, not_done t h) (record { status = refl; reference = refl; area = refl; base = refl })
 
-pub refused-err : (x : Scene) (c : Call) (s : Status) (why : Refusal) → s ≡ status_by why → Ends (answered x c s) (status_by why) c.reference c.area c.base
-refused-err x c s why e = refused-ends x c s (status_by why) e (refusal-counts why)
-
 -- ---- a record that is given, or none
 
 module _ (b : List ℕ) (e : Entry) (r : ℕ) (area : List ℕ) where
