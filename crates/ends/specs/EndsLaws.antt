@@ -10,7 +10,7 @@ use Rattle.terms.specs.declared.Operation.TheVariants.{Formt}
 use Rattle.terms.specs.Terms.{end_ref}
 use Rattle.terms.specs.declared.Refusal.{Refusal}
 use Rattle.terms.specs.Status.{status_number, is_done, first_of, status_by}
-use Rattle.terms.specs.Laws.{status-number-one, not_done, refusal-not-done, refusal-counts}
+use Rattle.terms.specs.Laws.{status-number-one, not_done, refusal-not-done}
 use Rattle.blocks.specs.declared.Check.{Check}
 use Rattle.blocks.specs.Blocks.{check_by}
 use Rattle.schema.specs.declared.Entry.{Entry}
