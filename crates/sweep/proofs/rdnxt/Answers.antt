@@ -7,7 +7,7 @@ use Rattle.sweep.specs.SweptLaws.{given-number, given-within, sweep-ends}
 use Rattle.sweep.proofs.rdnxt.Goals as goal
 
 pub of-requires-clause-front : goal.of-requires-clause-front
-of-requires-clause-front c = (set_in_lem c.requires.set.set).head
+of-requires-clause-front c = omega (arith, (set_in_lem c.requires.set.set).head)
 
 pub give-requires-clause-in_set : goal.give-requires-clause-in_set
 give-requires-clause-in_set c =
