@@ -52,7 +52,8 @@ pub fn record_places(e: Entry) -> [usize; 4]
 
 // The master of a key among the masters of its path: where its record lies.
 fn owner_among(masters: &Masters, key: Key, absent: Refusal) -> Result<Part, Refusal>
-    requires { key.len ≡ masters.now.entry.now.key }
+    requires le_records { 1 ≤ masters.now.entry.now.records }
+    requires len_value { key.len ≡ masters.now.entry.now.key }
     ensures { result ≡ owner_of absent masters.now.entry.now (find masters.now.base.now masters.now.entry.now (key_of key)) }
 {
     match masters.find(key).found {
@@ -70,6 +71,7 @@ fn owner_on(
     named: NamedPath,
     absent: Refusal,
 ) -> Result<Part, Refusal>
+    requires le_records { 1 ≤ masters.now.entry.now.records }
     requires len_value { key.len ≡ masters.now.entry.now.key }
     requires key_value { k ≡ named.on → find masters.now.base.now masters.now.entry.now (key_of key) ≡ At named.master }
     ensures { result ≡ owner_of absent masters.now.entry.now (find masters.now.base.now masters.now.entry.now (key_of key)) }

@@ -45,6 +45,7 @@ owner_on-requires c =
     let a = c.args in
     let k = c.loop-k.k in
     let h : k < a.self.now.entry.now.count = omega arith in record {
+      le_records = rw c.masters_on.ensures.1 (c.args.self.now.masters_in k h).some;
       len_value = rw (c.masters_on.ensures.1, c.part-key.ensures.1, c.path_of-p.ensures) (c.args.self.now.masters_in k h).key;
       key_value = λ q. rw (c.masters_on.ensures.0, c.masters_on.ensures.1, read a.src.now a.self.now.entry.now a.at k c.path_of-p.ensures c.part-key.ensures.0) (named_here a.self.now.base.now (masters_kept a.self.now.masters.now) (key_at a.src.now a.self.now.entry.now a.at) q c.requires.on_value);
     }
