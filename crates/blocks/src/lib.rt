@@ -15,15 +15,6 @@ pub enum Check {
     Sum,
 }
 
-impl Check {
-    // As `Check::from`.
-    pub fn of(number: u8) -> Check
-        ensures { result ≡ check_by number }
-    {
-        Check::from(number)
-    }
-}
-
 impl From<u8> for Check {
     ghost from_gives = { λ number k. k ≡ check_by number };
 

@@ -27,7 +27,7 @@ pub fn checks_true(base: &[u8], t: Schema) -> bool
     requires { t.blocks * 512 ≤ length base.now }
     ensures { result ≡ checks_true t base.now }
 {
-    sealed_below(base, t.blocks, Check::of(t.edition))
+    sealed_below(base, t.blocks, t.edition.into())
 }
 
 // A live record has three zeros behind its state; any other record is all zero, so that its state is 0.

@@ -241,7 +241,7 @@ pub fn commit(base: &mut [u8], e: Entry, area: &[u8], p: Plan) -> bool
     ensures value { result ≡ blocks_sealed (check_by e.edition) base.old (plan_stores base.old e area.now p) }
     ensures base_after { base.new ≡ cond (blocks_sealed (check_by e.edition) base.old (plan_stores base.old e area.now p)) (committed (check_by e.edition) base.old (plan_stores base.old e area.now p)) base.old }
 {
-    let kind = Check::of(e.edition);
+    let kind = Check::from(e.edition);
     let blocks = touched(e, &p);
     if !all_sealed(base, blocks.as_slice(), kind) {
         return false;

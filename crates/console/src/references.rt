@@ -10,11 +10,10 @@ pub fn is_spelt(v: u32) -> bool
 {
     let a = (v / 256 % 256) as u8;
     let b = (v % 256) as u8;
-    let end = Reference::end();
     let link = Reference::link(a, b);
     let first = a.is_ascii_uppercase() | a.is_ascii_digit();
     let second = b.is_ascii_uppercase() | b.is_ascii_digit();
-    (v == end.0) | ((v == link.0) & first & second)
+    (Reference(v) == Reference::END) | ((v == link.0) & first & second)
 }
 
 // The number that digits spell, up to 4,294,967,295.

@@ -119,10 +119,9 @@ fn wrong_reference(q: Rungs, e: Entry, link: u32, reference: u32) -> bool
 {
     let low = reference <= e.records;
     let number = (1 <= reference) & low;
-    let end = Reference::end();
     let a = q.link & !((reference == link) | number);
     let b = q.sweep & !low;
-    let c = q.last & (reference == end.0);
+    let c = q.last & (Reference(reference) == Reference::END);
     let d = q.number & !number;
     a | (b | (c | d))
 }

@@ -166,20 +166,6 @@ impl Key {
 impl Reference {
     pub const END: Reference = Reference(0x454E442E);
 
-    // END.: there is no such record.
-    pub fn end() -> Reference
-        ensures { result.0 ≡ end_ref }
-    {
-        Reference::END
-    }
-
-    // As `Reference::from`.
-    pub fn number(n: RecordNo) -> Reference
-        ensures { result.0 ≡ n.0 }
-    {
-        Reference::from(n)
-    }
-
     // LKxx: the path with the letters a and b, from its beginning or end. The letters are bytes, so no two pairs make the same word.
     pub fn link(a: u8, b: u8) -> Reference
         ensures { (result.0 ≡ link_ref a b) × (a < 256) × (b < 256) }
@@ -250,13 +236,6 @@ impl From<Status> for u32 {
 }
 
 impl Status {
-    // As `u32::from`.
-    pub fn number(self) -> u32
-        ensures { result ≡ status_number self }
-    {
-        u32::from(self)
-    }
-
     // The four characters that are printed.
     pub fn code(self) -> [u8; 4]
         ensures { result ≡ status_code self }
@@ -280,15 +259,6 @@ impl Status {
             Status::Full => *b"FULL",
             Status::Damg => *b"DAMG",
         }
-    }
-}
-
-impl Operation {
-    // As `Operation::from`.
-    pub fn of(op: &[u8; 5]) -> Operation
-        ensures { result ≡ operation_of op.now }
-    {
-        Operation::from(op)
     }
 }
 

@@ -4,4 +4,4 @@ use Rattle.clean.proofs.checks_true.Goals as goal
 
 pub returns : goal.returns
 unfolding checks_true
-returns c = rw c.of.ensures at c.sealed_below.ensures
+returns c = rw c.into.ensures at c.sealed_below.ensures

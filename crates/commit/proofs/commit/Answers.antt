@@ -16,14 +16,14 @@ seal_all-requires c =
 pub returns-then-not-all_sealed : goal.returns-then-not-all_sealed
 returns-then-not-all_sealed c =
     let a = c.args in
-    let whether = c.all_sealed.ensures ∙ touched-sealed a.base.now a.e a.area.now a.p c.requires.lies_in c.requires.plan_ok _ (c.as_slice.ensures ∙ c.touched-blocks.ensures.0) c.of-kind.result in
+    let whether = c.all_sealed.ensures ∙ touched-sealed a.base.now a.e a.area.now a.p c.requires.lies_in c.requires.plan_ok _ (c.as_slice.ensures ∙ c.touched-blocks.ensures.0) c.from-kind.result in
     let p = commit_refused _ _ whether c.if-not-all_sealed.true in
-    rw (← c.of-kind.ensures) record { value = p.0; base_after = p.1 }
+    rw (← c.from-kind.ensures) record { value = p.0; base_after = p.1 }
 
 pub returns : goal.returns
 returns c =
     let a = c.args in
-    let whether = c.all_sealed.ensures ∙ touched-sealed a.base.now a.e a.area.now a.p c.requires.lies_in c.requires.plan_ok _ (c.as_slice.ensures ∙ c.touched-blocks.ensures.0) c.of-kind.result in
-    let after = touched-committed a.base.now a.e a.area.now a.p c.requires.lies_in c.requires.plan_ok _ (c.as_slice-2.ensures ∙ c.touched-blocks.ensures.0) c.of-kind.result c.store.new.base c.seal_all.new.base (λ i. search rules) c.store.ensures c.seal_all.ensures in
+    let whether = c.all_sealed.ensures ∙ touched-sealed a.base.now a.e a.area.now a.p c.requires.lies_in c.requires.plan_ok _ (c.as_slice.ensures ∙ c.touched-blocks.ensures.0) c.from-kind.result in
+    let after = touched-committed a.base.now a.e a.area.now a.p c.requires.lies_in c.requires.plan_ok _ (c.as_slice-2.ensures ∙ c.touched-blocks.ensures.0) c.from-kind.result c.store.new.base c.seal_all.new.base (λ i. search rules) c.store.ensures c.seal_all.ensures in
     let p = commit_done a.base.now whether c.if-not-all_sealed.false after in
-    rw (← c.of-kind.ensures) record { value = p.0; base_after = p.1 }
+    rw (← c.from-kind.ensures) record { value = p.0; base_after = p.1 }

@@ -4,4 +4,4 @@ use Rattle.std.proofs.Common.{refl}
 use Rattle.forms.proofs.wrong_reference.Goals as goal
 
 pub returns : goal.returns
-returns c = rw c.end-end.ensures refl
+returns c = rw c.eq.ensures refl

@@ -11,5 +11,5 @@ returns c =
       c.is_ascii_digit.ensures.value,
       c.is_ascii_uppercase.ensures.value,
       c.link-link.ensures.0,
-      c.end-end.ensures,
+      c.eq.ensures,
     ) refl
