@@ -1,17 +1,33 @@
 -- The laws of a line that is well made: what its fields are then.
-use Rattle.std.specs.Prelude.{ℕ, ◌≤◌, ◌≡◌, Bool, true, false, cond, ◌&&◌, List, [], ◌∷◌, ◌++◌, eqb, length, take}
+use Rattle.std.specs.Prelude.{ℕ, ◌≤◌, ◌<◌, ◌≡◌, Bool, true, false, cond, not, ◌&&◌, ◌||◌, List, [], ◌∷◌, ◌++◌, eqb, leb, length, take}
 use Rattle.std.proofs.Math.Path.{refl}
-use Rattle.std.proofs.Common.{◌∙◌, arith, length-take, length-drop, eqb-true}
+use Rattle.std.proofs.Common.{◌∙◌, arith, length-take, length-drop, eqb-true, leb-true}
 use Rattle.std.proofs.Math.Bool.{and-eq-true_iff}
+use Rattle.octets.specs.Octets.{Bytes, word_at, every}
+use Rattle.octets.specs.WordLaws.{word_at_lt}
 use Rattle.octets.specs.Text.{text}
 use Rattle.terms.specs.declared.Status.{Status}
 use Rattle.terms.specs.Status.{status_code}
 use Rattle.calls.specs.Call.{Call}
 use Rattle.calls.specs.Outcome.{IsOutcome}
 use Rattle.console.specs.Lines.{field_of, is_dash, is_name, is_part, given_part}
-use Rattle.console.specs.References.{is_reference, decimal, written}
+use Rattle.console.specs.References.{is_digit, decimal_of, spells_four, is_decimal, is_reference, reference_of, decimal, written}
 use Rattle.console.specs.PrinterLaws.{stays-behind}
 use Rattle.console.specs.Console.{fields_made, well_made, is_read, record_given, unmade, RestStays, Replied, reply_to, responded}
+
+-- ---- a reference is a word
+
+decimal_lt : (f : List ℕ) → is_decimal f ≡ true → decimal_of f < 4294967296
+decimal_lt f h =
+    let t = ((and-eq-true_iff (not (eqb (length f) 0)) (every is_digit f && leb (decimal_of f) 4294967295)).0 h).1 in
+    omega (arith, leb-true (decimal_of f) 4294967295 ((and-eq-true_iff (every is_digit f) (leb (decimal_of f) 4294967295)).0 t).1)
+
+pub reference_lt : (f : List ℕ) → Bytes f → is_reference f ≡ true → reference_of f < 4294967296
+reference_lt f b h = go (spells_four f) h
+  where
+    go : (t : Bool) → (t || is_decimal f) ≡ true → cond t (word_at f 0) (decimal_of f) < 4294967296
+    go true k = word_at_lt f 0 b
+    go false k = decimal_lt f k
 
 -- ---- the fields, one by one
 
