@@ -1,14 +1,14 @@
 -- The laws of tests and sums over a run: a loop keeps what the run from place i on gives, so each has a turn, a failure and an end.
 use Rattle.std.specs.Prelude.{◌≡◌, ℕ, zero, suc, ◌+◌, ◌*◌, ◌/◌, ◌%◌, ◌<◌, ◌≤◌, Bool, true, false, ◌&&◌, List, [], ◌∷◌, ◌++◌, length, drop, replicate, get_or, ◌==◌, nat_eq, ◌≢◌, slice_index, refl}
-use Rattle.std.proofs.Common.{sym, ap, ◌∙◌, arith, mod-lt, mod-eq_of_lt, lit<, add-one, drop-cons}
+use Rattle.std.proofs.Common.{sym, ap, ◌∙◌, arith, mod-lt, mod-eq_of_lt, lit<, add-one, drop-cons, length-drop}
 use Rattle.std.proofs.Math.Bool.{and_assoc, and-eq-true_iff}
 use Rattle.std.proofs.Math.ListN.{drop_of_length-le}
-use borrow.Author.Tests.{eq-eqb, eqb-true}
+use borrow.Author.Tests.{eq-eqb, eqb-true, ne_eqb}
 use Rattle.std.specs.List.{fold}
 use Rattle.std.specs.Simd.{first_chunks}
 use Rattle.std.specs.Cmp.Lexicographic.{pointwise}
-use Rattle.octets.specs.Octets.{word4, zeros, every, is, all_zero, same_bytes, sum_onto}
-use Rattle.octets.specs.SpliceLaws.{drop-one}
+use Rattle.octets.specs.Octets.{word4, zeros, every, is, all_zero, same_bytes, sum_onto, word_at}
+use Rattle.octets.specs.SpliceLaws.{drop-one, drop-four}
 
 -- a test that cannot be true is false; two tests that are true together are equal
 pub refuted : (t : Bool) → (t ≢ true) → t ≡ false
@@ -72,6 +72,21 @@ all_zero_eq (x ∷ xs) h =
 
 -- ---- same_bytes
 
+-- a loop over both runs: its turn, its failure and its end
+module _ (xs ys : List ℕ) (i : ℕ) where
+  pub same_turn : i < length xs → i < length ys → slice_index xs i ≡ slice_index ys i
+      → same_bytes (drop i xs) (drop i ys) ≡ same_bytes (drop (i + 1) xs) (drop (i + 1) ys)
+  unfolding same_bytes
+  same_turn h k e = rw (drop-one xs i h, drop-one ys i k, eq-eqb _ _ e)
+
+  pub same_fails : i < length xs → i < length ys → (slice_index xs i ≢ slice_index ys i) → same_bytes (drop i xs) (drop i ys) ≡ false
+  unfolding same_bytes
+  same_fails h k e = rw (drop-one xs i h, drop-one ys i k, ne_eqb _ _ e)
+
+  pub same_end : length xs ≤ i → length ys ≤ i → same_bytes (drop i xs) (drop i ys) ≡ true
+  unfolding same_bytes
+  same_end h k = rw (drop_of_length-le xs {i = i} h, drop_of_length-le ys {i = i} k)
+
 -- it is what `==` of slices answers
 pub pointwise-same : (xs ys : List ℕ) → pointwise nat_eq xs ys ≡ same_bytes xs ys
 unfolding same_bytes
@@ -117,6 +132,15 @@ sum_short acc (a ∷ []) h = refl
 sum_short acc (a ∷ b ∷ []) h = refl
 sum_short acc (a ∷ b ∷ c ∷ []) h = refl
 sum_short acc (a ∷ b ∷ c ∷ d ∷ xs) h = absurd (omega arith)
+
+-- a turn, in the words of the code: the word read and the wrapping sum
+pub sum_turn : (acc : ℕ) (xs : List ℕ) (i : ℕ) {w r : ℕ} → i + 4 ≤ length xs → w ≡ word_at xs i → r ≡ (acc + w) % 4294967296
+    → sum_onto acc (drop i xs) ≡ sum_onto r (drop (i + 4) xs)
+unfolding sum_onto word_at
+sum_turn acc xs i h ew er = rw (er, ew, drop-four xs i h)
+
+pub sum_end : (acc : ℕ) (xs : List ℕ) (i : ℕ) → length xs < i + 4 → sum_onto acc (drop i xs) ≡ acc
+sum_end acc xs i h = sum_short acc (drop i xs) (rw length-drop (omega arith))
 
 -- a word, as the list of its four bytes, onto what is summed already
 abbrev pub word_added : ℕ → List ℕ → ℕ

@@ -1,7 +1,7 @@
 -- The laws of `splice` and `run`: what a store changes and what it leaves.
-use Rattle.std.specs.Prelude.{◌≡◌, ℕ, zero, suc, ◌+◌, ◌-◌, ◌<◌, ◌≤◌, List, [], ◌∷◌, ◌++◌, length, take, drop, set, slice_index, slice_set, refl}
-use Rattle.std.proofs.Common.{sym, ap, ◌∙◌, append-nil, append_assoc, arith, add-one, length-set, length-take, length-drop, length-take-le, take-take, drop-cons, drop-drop, get_or-take, get_or-drop, get_or-set_same, get_or-set_other, set-set, drop-set-lt, ext_get_or}
-use Rattle.std.proofs.lemmas.List.{set_comm, set-get_or, take-set-le, drop-set-add}
+use Rattle.std.specs.Prelude.{◌≡◌, ℕ, zero, suc, ◌+◌, ◌-◌, ◌<◌, ◌≤◌, List, [], ◌∷◌, ◌++◌, length, take, drop, set, slice_index, slice_set, refl, replicate}
+use Rattle.std.proofs.Common.{sym, ap, ◌∙◌, append-nil, append_assoc, arith, add-one, length-set, length-take, length-drop, length-take-le, take-take, drop-cons, drop-drop, get_or-take, get_or-drop, get_or-set_same, get_or-set_other, set-set, drop-set-lt, ext_get_or, take-suc}
+use Rattle.std.proofs.lemmas.List.{set_comm, set-get_or, take-set-le, drop-set-add, length-replicate, replicate-append-replicate}
 use Rattle.std.proofs.Math.Seq.{take-length, take-set-lt, drop-length}
 use Rattle.std.proofs.lemmas.List.Edits.{sets, sets-eq, paste_all}
 use Rattle.std.proofs.lemmas.Slice.{put_mid-paste}
@@ -126,6 +126,30 @@ splice_append xs a [] zs = let e : a + 0 ≡ a = omega arith in rw e refl
 splice_append xs a (y ∷ ys) zs =
     let e : a + suc (length ys) ≡ a + 1 + length ys = omega arith in
     rw e (splice_append (slice_set xs a y) (a + 1) ys zs)
+
+-- one more element at the end: a turn of a loop that stores
+pub splice_snoc : (xs : List ℕ) (a : ℕ) (ys : List ℕ) (v : ℕ) → splice xs a (ys ++ (v ∷ [])) ≡ slice_set (splice xs a ys) (a + length ys) v
+unfolding splice
+splice_snoc xs a ys v = splice_append xs a ys (v ∷ [])
+
+-- the same, as a loop that copies has it
+pub splice-turn : (xs : List ℕ) (a : ℕ) (ys : List ℕ) (i : ℕ) → i < length ys
+    → slice_set (splice xs a (take i ys)) (a + i) (slice_index ys i) ≡ splice xs a (take (i + 1) ys)
+splice-turn xs a ys i h =
+    let l : length (take i ys) ≡ i = length-take-le i ys (omega arith) in
+    sym (rw (add-one, take-suc ys i 0, splice_snoc, l) refl)
+
+-- the same, where each element is d
+pub splice_fill : (xs : List ℕ) (a d i : ℕ) → slice_set (splice xs a (replicate i d)) (a + i) d ≡ splice xs a (replicate (i + 1) d)
+splice_fill xs a d i = sym (rw (← replicate-append-replicate i 1 d, splice_snoc, length-replicate) refl)
+
+-- the same, where the n elements are read from the list itself, at places apart from those that are stored to
+pub moved : (xs : List ℕ) (from to n i : ℕ) → Apart to n from n → i < n → from + n ≤ length xs
+    → slice_set (splice xs to (run xs from i)) (to + i) (slice_index (splice xs to (run xs from i)) (from + i)) ≡ splice xs to (run xs from (i + 1))
+moved xs from to n i a h k =
+    let m : i < length (drop from xs) = rw length-drop (omega arith) in
+    let l : length (run xs from i) ≡ i = length_run xs from i (omega arith) in
+    rw (get_d_splice_out xs to (run xs from i) (from + i) (λ p q. a (omega arith) (omega arith)), ← get_or-drop from xs i 0) (splice-turn xs to (drop from xs) i m)
 
 -- ---- the cut and the paste
 

@@ -1,5 +1,5 @@
 -- The laws of words: what is stored is read again, and what a store leaves.
-use Rattle.std.specs.Prelude.{◌≡◌, ℕ, zero, suc, ◌+◌, ◌*◌, ◌/◌, ◌%◌, ◌<◌, ◌≤◌, List, [], ◌∷◌, length, slice_index, refl}
+use Rattle.std.specs.Prelude.{◌≡◌, ℕ, zero, suc, ◌+◌, ◌*◌, ◌/◌, ◌%◌, ◌<◌, ◌≤◌, List, [], ◌∷◌, length, slice_index, refl, slice_set}
 use Rattle.std.proofs.Common.{sym, ◌∙◌, arith, div-add-mod', mod-eq_of_lt}
 use Rattle.std.proofs.Math.Nat.{div-div-eq-div-mul}
 use borrow.Rule.Slice.PartMut.{put_mid}
@@ -107,3 +107,12 @@ set_word_id xs at b h =
 pub set_word-part : (a k : ℕ) (xs : List ℕ) (j v : ℕ) → j + 4 ≤ k → put_mid a k xs (set_word (run xs a k) j v) ≡ set_word xs (a + j) v
 unfolding set_word
 set_word-part a k xs j v h = splice-part a k xs j (word_bytes v) h
+
+-- the four stores of `put_word`
+pub stored : (xs : List ℕ) (at v : ℕ) {a b c d : ℕ} → a ≡ v / 16777216 % 256 → b ≡ v / 65536 % 256 → c ≡ v / 256 % 256 → d ≡ v % 256
+    → slice_set (slice_set (slice_set (slice_set xs at a) (at + 1) b) (at + 2) c) (at + 3) d ≡ set_word xs at v
+unfolding set_word splice
+stored xs at v p q r s =
+    let e : at + 1 + 1 ≡ at + 2 = omega arith in
+    let f : at + 2 + 1 ≡ at + 3 = omega arith in
+    rw (p, q, r, s, e, f) refl

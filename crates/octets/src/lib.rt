@@ -33,7 +33,10 @@ pub fn copy_in(dst: &mut [u8], at: usize, src: &[u8])
     requires { at + length src.now ≤ length dst.old }
     ensures { dst.new ≡ splice dst.old at src.now }
 {
-    dst[at..at + src.len()].copy_from_slice(src);
+    // kept: the loop. Of `copy_from_slice` LLVM makes a call of memmove, and the archive for C asks for memcpy and memset alone.
+    for i in 0..src.len() {
+        dst[at + i] = src[i];
+    }
 }
 
 // Stores n zeros at `at` of dst.
