@@ -23,7 +23,7 @@ use Rattle.decode.specs.Decoding.{Counted, PathAt}
 -- ---- the paths to each master, counted over the first q slots
 
 -- the path in a slot of a set leads to one of the masters
-slot-master : (s : List ℕ) (q : ℕ) → Formed s → q < 4 * sets_of s → is_path_slot s q ≡ true → master_of_slot s q < masters_of s
+pub slot-master : (s : List ℕ) (q : ℕ) → Formed s → q < 4 * sets_of s → is_path_slot s q ≡ true → master_of_slot s q < masters_of s
 slot-master s q f h e = (f.set (q / 4) (omega arith)).leads (q % 4) (ltb-true (q % 4) (count_of s (q / 4)) e)
 
 -- so one of four

@@ -1,16 +1,23 @@
 -- The turns of the loop that sets the checks, and the check of a block of zeros.
 use Rattle.std.specs.Prelude.{ℕ, zero, suc, ◌+◌, ◌*◌, ◌≤◌, ◌<◌, ◌≡◌, refl, List, length}
-use Rattle.std.proofs.Common.{ap, ◌∙◌, arith, add-one}
+use Rattle.std.proofs.Common.{ap, ◌∙◌, arith, add-one, append-nil}
 use Rattle.std.proofs.lemmas.List.{length-replicate}
-use Rattle.octets.specs.Octets.{run, set_word, zeros}
-use Rattle.octets.specs.SpliceLaws.{run_zeros}
+use Rattle.octets.specs.Octets.{run, set_word, zeros, splice}
+use Rattle.octets.specs.SpliceLaws.{run_zeros, splice_eq}
 use Rattle.blocks.specs.declared.Check.{Check}
 use Rattle.blocks.specs.Blocks.{block_at, check_at, seal}
 use Rattle.blocks.specs.Laws.{run_seal, check_of-zeros}
 use Rattle.plans.specs.Plan.{seal_below, formatted}
+use Rattle.std.proofs.Math.Seq.{drop-length}
 
 pub length-zeros : (b : List ℕ) (n : ℕ) → b ≡ zeros n → length b ≡ n
 length-zeros b n h = ap length h ∙ length-replicate n 0
+
+-- zeros over the whole of a buffer of n bytes leave nothing of it
+pub zeros-whole : (b : List ℕ) (n : ℕ) → length b ≡ n → splice b 0 (zeros (length b)) ≡ zeros n
+zeros-whole b n h =
+    let l : 0 + length (zeros (length b)) ≡ length b = omega (arith, length-replicate {A = ℕ} (length b) 0) in
+    splice_eq b 0 (zeros (length b)) (omega arith) ∙ (rw (l, drop-length b) (append-nil (zeros (length b)))) ∙ ap zeros h
 
 -- before the first turn no check is set
 pub seals_begin : (k : Check) (b : List ℕ) → b ≡ seal_below k 0 b

@@ -1,7 +1,7 @@
 -- The laws of keys, references, statuses and operations.
-use Rattle.std.specs.Prelude.{ℕ, ◌+◌, ◌-◌, ◌%◌, ◌≤◌, ◌<◌, ◌≡◌, refl, Bool, true, false, cond, ◌&&◌, ◌==◌, List, [], ◌∷◌, ◌++◌, length, get_or, take}
-use Rattle.std.proofs.Common.{sym, ap, ◌∙◌, arith, mod-lt, drop_of_length-le, length-take-le, ne_eqb}
-use Rattle.octets.specs.Octets.{splice, zeros, word_sum, same_bytes}
+use Rattle.std.specs.Prelude.{ℕ, ◌+◌, ◌-◌, ◌%◌, ◌≤◌, ◌<◌, ◌≡◌, refl, Bool, true, false, cond, ◌&&◌, ◌==◌, List, [], ◌∷◌, ◌++◌, length, get_or, take, ◌*◌, ltb}
+use Rattle.std.proofs.Common.{sym, ap, ◌∙◌, arith, mod-lt, drop_of_length-le, length-take-le, ne_eqb, ltb-true}
+use Rattle.octets.specs.Octets.{splice, zeros, word_sum, same_bytes, Bytes, every}
 use Rattle.octets.specs.SpliceLaws.{drop-one, drop-four, splice_eq, drop-zeros}
 use Rattle.terms.specs.Terms.{key_from, home_of, end_ref, link_ref}
 use Rattle.terms.specs.Operation.{operation_of}
@@ -12,6 +12,7 @@ use Rattle.terms.specs.declared.Refusal.{Refusal}
 use Rattle.terms.specs.declared.Refusal.TheVariants as refusal
 use Rattle.terms.specs.declared.Status.{Status}
 use Rattle.terms.specs.declared.Status.TheVariants.{Done, Schm, Size, Func, Fntf, Kind, Path, Area, Klen, Bctl, Keys, Ivrp, Mrnf, Dupm, Imdl, Full, Damg}
+use Rattle.octets.specs.RunLaws.{every_at, ne_same_bytes}
 
 -- ---- keys
 
@@ -141,9 +142,42 @@ letters_ask a b c d e =
     (cond (a == 68 && (b == 69 && (c == 76 && (d == 86 && (e == 68 && true))))) Delvd
     Unknown)))))))))))))))
 
+-- five letters as one number
+abbrev pub number5 : ℕ → ℕ → ℕ → ℕ → ℕ → ℕ
+number5 a b c d e = a * 4294967296 + b * 16777216 + c * 65536 + d * 256 + e
+
+abbrev pub number5_of : List ℕ → ℕ
+number5_of xs = number5 (get_or xs 0 0) (get_or xs 1 0) (get_or xs 2 0) (get_or xs 3 0) (get_or xs 4 0)
+
+-- a byte, by a test that computes
+abbrev pub byte? : ℕ → Bool
+byte? x = ltb x 256
+
+one_way : (a b c d e p q r s t : ℕ) → (b < 256) × (c < 256) × (d < 256) × (e < 256) → (q < 256) × (r < 256) × (s < 256) × (t < 256)
+    → number5 a b c d e ≡ number5 p q r s t → a ∷ b ∷ c ∷ d ∷ e ∷ [] ≡ p ∷ q ∷ r ∷ s ∷ t ∷ []
+one_way a b c d e p q r s t h k n =
+    let f : a ≡ p = omega arith in
+    let g : b ≡ q = omega arith in
+    let i : c ≡ r = omega arith in
+    let j : d ≡ s = omega arith in
+    let l : e ≡ t = omega arith in
+    cc
+
 fives : (xs : List ℕ) → length xs ≡ 5 → xs ≡ get_or xs 0 0 ∷ get_or xs 1 0 ∷ get_or xs 2 0 ∷ get_or xs 3 0 ∷ get_or xs 4 0 ∷ []
 fives xs h = drop-four xs 0 (omega arith) ∙ cc (drop-one xs 4 (omega arith), drop_of_length-le xs {i = 5} (omega arith))
 
 pub operation_of_letters : (op : List ℕ) → length op ≡ 5 → operation_of op ≡ letters_ask (get_or op 0 0) (get_or op 1 0) (get_or op 2 0) (get_or op 3 0) (get_or op 4 0)
 unfolding operation_of same_bytes
 operation_of_letters op h = ap operation_of (fives op h)
+
+-- five bytes that make the number of a word are that word
+pub spelt : (op w : List ℕ) → length op ≡ 5 → length w ≡ 5 → Bytes op → every byte? w ≡ true → number5_of op ≡ number5_of w → op ≡ w
+spelt op w lo lw bo bw e =
+    let at : (i : ℕ) → i < 5 → get_or w i 0 < 256 = λ i l. ltb-true _ _ (every_at byte? w i bw (omega arith)) in
+    fives op lo
+    ∙ one_way _ _ _ _ _ _ _ _ _ _ (bo 1, bo 2, bo 3, bo 4) (at 1 (omega arith), at 2 (omega arith), at 3 (omega arith), at 4 (omega arith)) e
+    ∙ sym (fives w lw)
+
+-- and where the numbers differ, so do the bytes
+pub misspelt : (op w : List ℕ) → (number5_of op ≡ number5_of w → ⊥) → same_bytes op w ≡ false
+misspelt op w h = ne_same_bytes op w (λ e. h (ap number5_of e))
