@@ -1,12 +1,33 @@
 // The fields of a record, stored one by one, each by one splice of the data base. A field lies within its record: the schema's layout says so.
-// They are read from a record that is held (`held`).
+// They are read from a record that is held (`held`); a key also from one of which nobody says that it has a state.
 ghost use Rattle.std.specs.Prelude.{◌≡◌, ◌+◌, ◌≤◌, length};
-ghost use Rattle.octets.specs.Octets.{set_word, splice, zeros};
+ghost use Rattle.octets.specs.Octets.{run, set_word, splice, zeros, same_bytes};
+ghost use Rattle.terms.specs.Terms.{key_of, key_from};
 ghost use Rattle.schema.specs.Place.{InSet, LiesIn, place_of, record_of};
 
 use schema::Entry;
-use schema::layout::place_of;
-use terms::RecordNo;
+use schema::layout::{place_of, record_of};
+use terms::{Key, RecordNo};
+
+// Is the key the one at a place of the record?
+pub fn key_is(base: &[u8], e: &Entry, r: RecordNo, o: usize, k: Key) -> bool
+    requires in_set { InSet e.now r.0 }
+    requires lies_in { LiesIn e.now (length base.now) }
+    requires len_bound { (k.len ≤ 16) × (o + k.len ≤ e.now.size) }
+    ensures { result ≡ same_bytes (key_of k) (run base.now (place_of e.now r.0 + o) k.len) }
+{
+    k.at(record_of(base, *e, r), o)
+}
+
+// The key at a place of the record.
+pub fn key_in(base: &[u8], e: &Entry, r: RecordNo, o: usize, len: usize) -> Key
+    requires in_set { InSet e.now r.0 }
+    requires lies_in { LiesIn e.now (length base.now) }
+    requires len_bound { (len ≤ 16) × (o + len ≤ e.now.size) }
+    ensures { (key_of result ≡ run base.now (place_of e.now r.0 + o) len) × (result.len ≡ len) × (result ≡ key_from (run base.now (place_of e.now r.0 + o) len)) }
+{
+    Key::part(record_of(base, *e, r), o, len)
+}
 
 // Stores a word at a place of the record.
 pub fn put_word_in(base: &mut [u8], e: Entry, r: RecordNo, o: usize, v: u32)

@@ -6,6 +6,7 @@ ghost use Rattle.terms.specs.Terms.{key_of, key_from};
 ghost use Rattle.schema.specs.Place.{InSet, LiesIn, place_of, record_of};
 ghost use Rattle.records.specs.Records.{state_of, is_live, root_next, root_prior, first_on, last_on, prior_on, next_on};
 
+use super::fields;
 use schema::{Entry, Path, layout};
 use terms::{Key, RecordNo};
 
@@ -132,7 +133,7 @@ impl<'a> Record<'a> {
         requires { (k.len ≤ 16) × (o + k.len ≤ self.now.entry.now.size) }
         ensures { result ≡ same_bytes (key_of k) (run self.now.base.now (place_of self.now.entry.now self.now.number.0 + o) k.len) }
     {
-        k.at(self.bytes(), o)
+        fields::key_is(self.base, self.entry, self.number, o, k)
     }
 
     // The key at a place of the record.
@@ -140,6 +141,6 @@ impl<'a> Record<'a> {
         requires { (len ≤ 16) × (o + len ≤ self.now.entry.now.size) }
         ensures { (key_of result ≡ run self.now.base.now (place_of self.now.entry.now self.now.number.0 + o) len) × (result.len ≡ len) × (result ≡ key_from (run self.now.base.now (place_of self.now.entry.now self.now.number.0 + o) len)) }
     {
-        Key::part(self.bytes(), o, len)
+        fields::key_in(self.base, self.entry, self.number, o, len)
     }
 }
