@@ -5,18 +5,67 @@ ghost use Rattle.terms.specs.Terms.{key_of};
 ghost use Rattle.schema.specs.Place.{InSet, LiesIn};
 ghost use Rattle.schema.specs.Guarantee.{MasterOk};
 ghost use Rattle.masters.specs.Find.{own_home, held_by_own, seek, find, named_master};
-ghost use Rattle.masters.specs.Walks.{last_from, last_sought};
+ghost use Rattle.masters.specs.Walks.{step_of, last_from, last_sought};
 
 use super::Found;
 use super::held::Masters;
 use schema::Entry;
 use terms::{Key, RecordNo, Refusal};
 
+// Where the walk stands: the pointer that it came by, a plain word until it is tested against R, and the records visited before it.
+#[derive(Clone, Copy)]
+pub struct Walk {
+    pub at: u32,
+    pub visited: u32,
+}
+
+// What a step of the walk meets.
+#[derive(Clone, Copy)]
+pub enum Step {
+    Found(RecordNo),
+    Absent,
+    Damaged,
+    Next(Walk),
+}
+
 // What the search found, and the record where it ends: behind that one a synonym is linked, so the chain is walked once.
 #[derive(Clone, Copy)]
 pub struct Sought {
     pub found: Found,
     pub last: RecordNo,
+}
+
+impl Walk {
+    // One step: the record is read once the pointer is a record of the set and fewer than R are visited.
+    pub fn step(self, masters: &Masters, k: Key) -> Step
+        requires len_value { k.len ≡ masters.now.entry.now.key }
+        ensures { result ≡ step_of masters.now.base.now masters.now.entry.now (key_of k) self }
+    {
+        let records = masters.entry.records;
+        if records <= self.visited {
+            return Step::Damaged;
+        }
+        let at = self.at;
+        if at == 0 || records < at {
+            return Step::Damaged;
+        }
+        let r = RecordNo(at);
+        let record = masters.at(r).record();
+        if !record.is_live() {
+            return Step::Damaged;
+        }
+        if record.key_is(12, k) {
+            return Step::Found(r);
+        }
+        let next = record.root_next();
+        if next == 0 {
+            return Step::Absent;
+        }
+        Step::Next(Walk {
+            at: next,
+            visited: self.visited + 1,
+        })
+    }
 }
 
 impl<'a> Masters<'a> {
@@ -27,35 +76,33 @@ impl<'a> Masters<'a> {
         ensures found_value { result.found ≡ seek self.now.entry.now.records self.now.base.now self.now.entry.now (key_of k) h.0 }
         ensures last_value { result.last.0 ≡ last_from result.found self.now.base.now self.now.entry.now h.0 }
     {
-        let records = self.entry.records;
-        let mut at = h.0;
-        for _ in 0..records {
-            if at == 0 || records < at {
-                break;
+        let mut w = Walk {
+            at: h.0,
+            visited: 0,
+        };
+        // kept: the cursor says how it goes on, and how often it may.
+        loop {
+            match w.step(self, k) {
+                Step::Found(r) => {
+                    return Sought {
+                        found: Found::At(r),
+                        last: h,
+                    };
+                }
+                Step::Absent => {
+                    return Sought {
+                        found: Found::Missing,
+                        last: RecordNo(w.at),
+                    };
+                }
+                Step::Damaged => {
+                    return Sought {
+                        found: Found::Damaged,
+                        last: h,
+                    };
+                }
+                Step::Next(n) => w = n,
             }
-            let r = RecordNo(at);
-            let record = self.at(r).record();
-            if !record.is_live() {
-                break;
-            }
-            if record.key_is(12, k) {
-                return Sought {
-                    found: Found::At(r),
-                    last: h,
-                };
-            }
-            let next = record.root_next();
-            if next == 0 {
-                return Sought {
-                    found: Found::Missing,
-                    last: r,
-                };
-            }
-            at = next;
-        }
-        Sought {
-            found: Found::Damaged,
-            last: h,
         }
     }
 

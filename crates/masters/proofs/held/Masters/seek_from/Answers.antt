@@ -1,52 +1,67 @@
-use borrow.Author.Rules.{rules}
-use Rattle.std.proofs.Common.{refl, ◌∙◌}
+use mathlib.Core.Path.{◌≡◌, refl, sym, ap, ◌∙◌}
+use native.Mathlib.Omega.{arith}
 use native.Mathlib.Nat.{sub-zero}
+use borrow.Author.Rules.{rules}
 use Rattle.terms.specs.Terms.{key_of}
-use Rattle.masters.proofs.WalkLaws.{seek_out, seek-no_record, seek-above, seek_free, seek_here, seek_end, seek_on}
+use Rattle.masters.specs.Find.{seek}
+use Rattle.masters.specs.Walks.{resolve}
+use Rattle.masters.proofs.WalkLaws.{Onward, seek_on, walk_turn, walk_ends, walk_goes}
 use Rattle.masters.proofs.held.Masters.seek_from.Goals as goal
-use Rattle.masters.proofs.held.Masters.seek_from.Goals.{then-at-eq0-via-then-at-eq0, then-at-eq0-via-else-at-eq0+then-records-at}
 
-pub loop-init : goal.loop-init
-loop-init c = (rw sub-zero refl, rw sub-zero refl)
+pub loop-r-init : goal.loop-r-init
+loop-r-init c = (search rules, rw sub-zero, rw sub-zero)
 
-pub returns-then-key_is-clause-found_value : goal.returns-then-key_is-clause-found_value
-returns-then-key_is-clause-found_value c =
+pub returns-in-Found : goal.returns-in-Found
+returns-in-Found c =
+    record {
+      found_value = rw c.in-Found.is at ((let by_turned : resolve (seek_on c.args.self.now.base.now c.args.self.now.entry.now (key_of c.args.k)) c.step.result ≡ seek c.args.self.now.entry.now.records c.args.self.now.base.now c.args.self.now.entry.now (key_of c.args.k) c.args.h.0 = let w = c.loop-r.w in
+          let a = c.args in
+          ap (resolve (seek_on a.self.now.base.now a.self.now.entry.now (key_of a.k))) c.step.ensures
+          ∙ sym (walk_turn a.self.now.base.now a.self.now.entry.now (key_of a.k) w)
+          ∙ c.loop-r.invariant.1 in by_turned));
+      last_value = refl;
+    }
+
+pub returns-in-Absent : goal.returns-in-Absent
+returns-in-Absent c =
     let a = c.args in
-    seek_here a.self.now.base.now a.self.now.entry.now (key_of a.k) c.loop.at c.loop.counter c.loop-test.true c.if-at-eq0.false c.if-records-at.false (search rules)
-    c.if-not-is_live.false c.requires.len_value (search rules) c.if-key_is.true
-    ∙ c.loop.invariant.0
+    let t = walk_ends a.self.now.base.now a.self.now.entry.now (key_of a.k) c.loop-r.w (sym c.step.ensures ∙ c.in-Absent.is) in
+    record {
+      found_value = rw c.in-Absent.is at ((let by_turned : resolve (seek_on c.args.self.now.base.now c.args.self.now.entry.now (key_of c.args.k)) c.step.result ≡ seek c.args.self.now.entry.now.records c.args.self.now.base.now c.args.self.now.entry.now (key_of c.args.k) c.args.h.0 = let w = c.loop-r.w in
+          let a = c.args in
+          ap (resolve (seek_on a.self.now.base.now a.self.now.entry.now (key_of a.k))) c.step.ensures
+          ∙ sym (walk_turn a.self.now.base.now a.self.now.entry.now (key_of a.k) w)
+          ∙ c.loop-r.invariant.1 in by_turned));
+      last_value = sym t ∙ c.loop-r.invariant.2;
+    }
 
-pub returns-then-next-eq0 : goal.returns-then-next-eq0
-returns-then-next-eq0 c =
-    let a = c.args in
-    let t = seek_end a.self.now.base.now a.self.now.entry.now (key_of a.k) c.loop.at c.loop.counter c.loop-test.true c.if-at-eq0.false c.if-records-at.false (search rules)
-    c.if-not-is_live.false c.requires.len_value (search rules) c.if-key_is.false (search rules) c.if-next-eq0.true in
-    record { found_value = t.0 ∙ c.loop.invariant.0; last_value = t.1 ∙ c.loop.invariant.1 }
+pub returns-in-Damaged : goal.returns-in-Damaged
+returns-in-Damaged c =
+    record {
+      found_value = rw c.in-Damaged.is at ((let by_turned : resolve (seek_on c.args.self.now.base.now c.args.self.now.entry.now (key_of c.args.k)) c.step.result ≡ seek c.args.self.now.entry.now.records c.args.self.now.base.now c.args.self.now.entry.now (key_of c.args.k) c.args.h.0 = let w = c.loop-r.w in
+          let a = c.args in
+          ap (resolve (seek_on a.self.now.base.now a.self.now.entry.now (key_of a.k))) c.step.ensures
+          ∙ sym (walk_turn a.self.now.base.now a.self.now.entry.now (key_of a.k) w)
+          ∙ c.loop-r.invariant.1 in by_turned));
+      last_value = refl;
+    }
 
-pub loop-preserved : goal.loop-preserved
-loop-preserved c =
-    let a = c.args in
-    let t = seek_on a.self.now.base.now a.self.now.entry.now (key_of a.k) c.loop.at c.loop.counter c.loop-test.true c.if-at-eq0.false c.if-records-at.false (search rules)
-    c.if-not-is_live.false c.requires.len_value (search rules) c.if-key_is.false (search rules) c.if-next-eq0.false in
-    (t.0 ∙ c.loop.invariant.0, t.1 ∙ c.loop.invariant.1)
+pub loop-r-smaller : goal.loop-r-smaller
+loop-r-smaller c = omega (
+  arith,
+  (let by_goes : Onward c.args.self.now.base.now c.args.self.now.entry.now c.loop-r.w c.in-Next.n = let a = c.args in
+      walk_goes a.self.now.base.now a.self.now.entry.now (key_of a.k) c.loop-r.w c.in-Next.n (sym c.step.ensures ∙ c.in-Next.is) in by_goes),
+)
 
-pub returns-after-loop-clause-found_value : goal.returns-after-loop-clause-found_value
-returns-after-loop-clause-found_value c =
-    let a = c.args in
-    seek_out a.self.now.base.now a.self.now.entry.now (key_of a.k) c.loop.at c.loop.counter c.loop-test.false ∙ c.loop.invariant.0
-
-pub returns-then-at-eq0-clause-found_value : goal.returns-then-at-eq0-clause-found_value
-returns-then-at-eq0-clause-found_value c =
-    let a = c.args in
-    elim c.then-at-eq0.branch [
-      | then-at-eq0-via-then-at-eq0 w ↦ seek-no_record a.self.now.base.now a.self.now.entry.now (key_of a.k) c.loop.at c.loop.counter
-          c.loop-test.true w.if-at-eq0.true ∙ c.loop.invariant.0
-      | then-at-eq0-via-else-at-eq0+then-records-at w ↦ seek-above a.self.now.base.now a.self.now.entry.now (key_of a.k) c.loop.at c.loop.counter
-          c.loop-test.true w.if-records-at.true ∙ c.loop.invariant.0
-    ]
-
-pub returns-then-not-is_live-clause-found_value : goal.returns-then-not-is_live-clause-found_value
-returns-then-not-is_live-clause-found_value c =
-    let a = c.args in
-    seek_free a.self.now.base.now a.self.now.entry.now (key_of a.k) c.loop.at c.loop.counter c.loop-test.true c.if-at-eq0.false c.if-records-at.false (search rules)
-    c.if-not-is_live.true ∙ c.loop.invariant.0
+pub loop-r-preserved : goal.loop-r-preserved
+loop-r-preserved c =
+    let g = (let by_goes2 : Onward c.args.self.now.base.now c.args.self.now.entry.now c.loop-r.w c.in-Next.n = let a = c.args in
+    walk_goes a.self.now.base.now a.self.now.entry.now (key_of a.k) c.loop-r.w c.in-Next.n (sym c.step.ensures ∙ c.in-Next.is) in by_goes2) in (
+      omega arith,
+      rw c.in-Next.is at ((let by_turned : resolve (seek_on c.args.self.now.base.now c.args.self.now.entry.now (key_of c.args.k)) c.step.result ≡ seek c.args.self.now.entry.now.records c.args.self.now.base.now c.args.self.now.entry.now (key_of c.args.k) c.args.h.0 = let w = c.loop-r.w in
+          let a = c.args in
+          ap (resolve (seek_on a.self.now.base.now a.self.now.entry.now (key_of a.k))) c.step.ensures
+          ∙ sym (walk_turn a.self.now.base.now a.self.now.entry.now (key_of a.k) w)
+          ∙ c.loop-r.invariant.1 in by_turned)),
+      sym g.tail ∙ c.loop-r.invariant.2,
+    )
