@@ -1,7 +1,7 @@
 -- The masters of a point's keys and its neighbours, path by path: the turns and ends of the loop that looks for the masters, and what it
 -- leaves where it refuses none.
 use Prim.Native.Nat.{ℕ, zero, suc, ◌+◌, ◌≤◌, ◌<◌}
-use Rattle.std.specs.Prelude.{◌≡◌, Bool, List, get_or, take, Result, Ok, Err}
+use Rattle.std.specs.Prelude.{◌≡◌, Bool, List, get_or, take, Result, Ok, Err, Option, Some, None}
 use Rattle.std.proofs.Math.Path.{refl}
 use Rattle.std.proofs.Common.{sym, ap, ◌∙◌, eq-or-lt_of_le, add-one, get_or-take}
 use Rattle.std.proofs.Math.Logic.{⊎_elim}
@@ -22,6 +22,7 @@ use Rattle.schema.specs.declared.Path.{Path}
 use Rattle.schema.specs.declared.Entry.{Entry}
 use Rattle.schema.specs.declared.Part.{Part}
 use Rattle.records.specs.declared.Link.{Link}
+use Rattle.records.specs.Records.{prior_on, next_on}
 use Rattle.masters.specs.declared.Found.{Found}
 use Rattle.masters.specs.declared.Found.TheVariants.{At, Missing, Damaged}
 use Rattle.masters.specs.Find.{find}
@@ -29,7 +30,7 @@ use Rattle.points.specs.declared.Spot.{Spot}
 use Rattle.points.specs.declared.Spot.TheVariants.{Last}
 use Rattle.points.specs.Points.{spot_on, neighbours_at}
 use Rattle.point_plans.specs.Rest.{master_status, other_master, other_masters}
-use Rattle.point_plans.specs.Paths.{no_part, found_part, owner_of}
+use Rattle.point_plans.specs.Paths.{no_part, found_part, absent_status, owner_of}
 
 -- ---- one path's master
 
@@ -37,26 +38,28 @@ pub named_here : {m : RecordNo} {k on : ℕ} (b : List ℕ) (x : ℕ → Entry) 
 named_here b x key q h = rw q h
 
 -- what the search answers, as a status, and where it found the master
-owner-status : (absent : Refusal) (x : Entry) (f : Found) → status_of (owner_of absent x f) ≡ master_status (status_by absent) f
+owner-status : (absent : Option Refusal) (x : Entry) (f : Found) → status_of (owner_of absent x f) ≡ master_status (absent_status absent) f
 owner-status absent x (At m) = refl
-owner-status absent x Missing = refl
+owner-status None x Missing = refl
+owner-status (Some why) x Missing = refl
 owner-status absent x Damaged = refl
 
 part_in : Result Part Refusal → Part
 part_in (Ok o) = o
 part_in (Err _) = no_part
 
-owner-part : (absent : Refusal) (x : Entry) (f : Found) → part_in (owner_of absent x f) ≡ found_part x f
+owner-part : (absent : Option Refusal) (x : Entry) (f : Found) → part_in (owner_of absent x f) ≡ found_part x f
 unfolding part_in
 owner-part absent x (At m) = refl
-owner-part absent x Missing = refl
+owner-part None x Missing = refl
+owner-part (Some why) x Missing = refl
 owner-part absent x Damaged = refl
 
-module _ (absent : Refusal) (x : Entry) (f : Found) where
-  pub owner_refused : {why : Refusal} → owner_of absent x f ≡ Err why → status_by why ≡ master_status (status_by absent) f
+module _ (absent : Option Refusal) (x : Entry) (f : Found) where
+  pub owner_refused : {why : Refusal} → owner_of absent x f ≡ Err why → status_by why ≡ master_status (absent_status absent) f
   owner_refused h = sym (ap status_of h) ∙ owner-status absent x f
 
-  pub owner_found : {o : Part} → owner_of absent x f ≡ Ok o → Done ≡ master_status (status_by absent) f
+  pub owner_found : {o : Part} → owner_of absent x f ≡ Ok o → Done ≡ master_status (absent_status absent) f
   owner_found h = sym (ap status_of h) ∙ owner-status absent x f
 
   pub owner_part : {o : Part} → owner_of absent x f ≡ Ok o → o ≡ found_part x f
@@ -73,6 +76,10 @@ spot_other spot on k h = rw (ne_eqb k on h)
 
 pub new-link : {l : Link} {p q : Path} {s u : Spot} {z w : ℕ} (b : List ℕ) (e : Entry) → q ≡ p → z ≡ w → s ≡ u → l ≡ neighbours_at b e q z s → l ≡ neighbours_at b e p w u
 new-link b e f g h i = rw (i, f, g, h)
+
+pub own-link : {l : Link} {p q : Path} (b : List ℕ) (e : Entry) (r : ℕ) → q ≡ p → l ≡ record { prior = prior_on b e r q; next = next_on b e r q }
+    → l ≡ record { prior = prior_on b e r p; next = next_on b e r p }
+own-link b e r f i = rw (i, f)
 
 -- ---- statuses
 

@@ -1,12 +1,15 @@
 -- What the code keeps of a call, path by path, in arrays: where each path's key stands in a buffer (`at`), where each path's master lies in
 -- the data base (`owners`), the record's neighbours (`links`). These are the definitions of Points, said of the arrays; SideLaws says that
 -- they are the same where the arrays hold what they should.
-use Rattle.std.specs.Prelude.{ℕ, ◌+◌, Bool, cond, not, ◌||◌, List, [], ◌∷◌, eqb, get_or, Result, Ok, Err}
+use Rattle.std.specs.Prelude.{ℕ, ◌+◌, Bool, cond, not, ◌||◌, List, [], ◌∷◌, eqb, get_or, Result, Ok, Err, Option, Some, None}
 use Rattle.std.specs.Bool.{xor}
 use Rattle.octets.specs.Octets.{run, word_at}
 use Rattle.octets.specs.Below.{all_below, upto, concat_below}
 use Rattle.terms.specs.declared.Refusal.{Refusal}
 use Rattle.terms.specs.declared.Refusal.TheVariants.{Damg}
+use Rattle.terms.specs.declared.Status.{Status}
+use Rattle.terms.specs.declared.Status.TheVariants.{Done}
+use Rattle.terms.specs.Status.{status_by}
 use Rattle.schema.specs.declared.Path.{Path}
 use Rattle.schema.specs.declared.Entry.{Entry}
 use Rattle.schema.specs.declared.Part.{Part}
@@ -36,10 +39,16 @@ found_part x (At m) = part_of x m.0
 found_part x Missing = no_part
 found_part x Damaged = no_part
 
+-- what is answered where there is no master: a refusal, or nothing, and then the path has no part
+abbrev pub absent_status : Option Refusal → Status
+absent_status None = Done
+absent_status (Some why) = status_by why
+
 -- the same as a Result: "16, then 12"
-abbrev pub owner_of : Refusal → Entry → Found → Result Part Refusal
+abbrev pub owner_of : Option Refusal → Entry → Found → Result Part Refusal
 owner_of absent x (At m) = Ok (part_of x m.0)
-owner_of absent x Missing = Err absent
+owner_of None x Missing = Ok no_part
+owner_of (Some why) x Missing = Err why
 owner_of absent x Damaged = Err Damg
 
 -- where path k's master lies; `x` are the masters of each path

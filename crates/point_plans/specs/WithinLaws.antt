@@ -1,16 +1,20 @@
--- The keys of an area and of a record lie in it.
+-- Masters lie in the largest base, and the keys of an area and of a record lie in it.
 use Rattle.std.specs.Prelude.{ℕ, ◌<◌, ◌≡◌, false, List, length, get_or}
 use Rattle.std.proofs.Common.{arith, ne_eqb}
 use Rattle.octets.specs.SpliceLaws.{run_run}
 use Rattle.schema.specs.declared.Entry.{Entry}
+use Rattle.schema.specs.declared.Part.{Part}
 use Rattle.schema.specs.Decode.{path_of}
-use Rattle.schema.specs.Place.{place_of, record_of}
+use Rattle.schema.specs.Place.{LiesIn, place_of, record_of}
 use Rattle.records.specs.Records.{key_on}
 use Rattle.records.specs.InBase.{PointsIn}
 use Rattle.records.specs.Areas.{is_master, area_key_place, area_length}
 use Rattle.records.proofs.AreaLaws.{area-key-inside, variable_keys}
 use Rattle.point_plans.specs.Paths.{key_at}
-use Rattle.point_plans.specs.Within.{KeysIn}
+use Rattle.point_plans.specs.Within.{OwnersIn, KeysIn}
+
+pub owners_most : {e : Entry} {n : ℕ} (owners : List Part) → LiesIn e n → OwnersIn e owners n → OwnersIn e owners 2097152
+owners_most owners l h = record { owner = λ k m. let o = h.owner k m in record { inside = omega (arith, o.inside, l.small); link = o.link } }
 
 -- the keys of an area of the right length, and of a record of the set
 pub area_keys_in : {e : Entry} {n : ℕ} (at area : List ℕ) → PointsIn e n → length area ≡ area_length e → ((k : ℕ) → k < e.count → get_or at k 0 ≡ area_key_place e k)

@@ -61,7 +61,7 @@ impl<'a> OwnedPoint<'a> {
             next: r.0,
         };
         let plan = Plan::of(Head::Variable, r, RecordNo(0), links);
-        self.with_sides(plan, links, [both; 4])
+        sides::with_sides(plan, self.entry, self.owners, links, [both; 4])
     }
 
     // The plan of DELVD of the record r.
@@ -70,7 +70,7 @@ impl<'a> OwnedPoint<'a> {
         ensures { Built self.now.entry.now self.now.owners (take self.now.entry.now.count links) (take self.now.entry.now.count links) Nothing r.0 r.0 result }
     {
         let plan = Plan::of(Head::Nothing, r, RecordNo(0), links);
-        self.with_sides(plan, links, links).with_wiped(r)
+        sides::with_sides(plan, self.entry, self.owners, links, links).with_wiped(r)
     }
 
     // The rest of an add: "15; 16".
@@ -80,7 +80,7 @@ impl<'a> OwnedPoint<'a> {
         ensures status { status_of result ≡ cond (is_full self.now.base.now self.now.entry.now) Full (cond (damaged self.now.base.now self.now.entry.now self.now.src.now self.now.at self.now.owners (new_links self.now.base.now self.now.entry.now self.now.owners spot on)) Damg Done) }
         ensures built { IfOk result (Built self.now.entry.now self.now.owners (new_links self.now.base.now self.now.entry.now self.now.owners spot on) (both_on self.now.entry.now (place_at self.now.base.now self.now.entry.now self.now.owners spot on)) Variable (place_at self.now.base.now self.now.entry.now self.now.owners spot on) 0) }
     {
-        let links = self.new_links(spot, on);
+        let links = links::new_links(self.base, self.entry, self.owners, spot, on);
         let place = self.new_place(links[on].prior).ok_or(Refusal::Full)?;
         if self.any_damaged(links) {
             return Err(Refusal::Damg);
@@ -94,7 +94,7 @@ impl<'a> OwnedPoint<'a> {
         ensures status { status_of result ≡ cond (damaged self.now.base.now self.now.entry.now self.now.src.now self.now.at self.now.owners (own_links self.now.base.now self.now.entry.now r.0)) Damg Done }
         ensures built { IfOk result (Built self.now.entry.now self.now.owners (own_links self.now.base.now self.now.entry.now r.0) (own_links self.now.base.now self.now.entry.now r.0) Nothing r.0 r.0) }
     {
-        let links = self.own_links(r);
+        let links = links::own_links(self.base, self.entry, r);
         if self.any_damaged(links) {
             return Err(Refusal::Damg);
         }
@@ -113,7 +113,7 @@ impl<'a> Paths<'a> {
         ensures plan { (t : Schema) → MastersOf t self.now.entry.now self.now.masters.now → IfOk result (λ plan. (plan_stores self.now.base.now self.now.entry.now area.now plan ≡ add_stores self.now.base.now t self.now.entry.now area.now spot named.on (add_place self.now.base.now t self.now.entry.now area.now spot named.on)) × PlanOk (length self.now.base.now) self.now.entry.now plan × (plan.target.0 ≡ add_place self.now.base.now t self.now.entry.now area.now spot named.on) × (plan.head ≡ Variable)) }
     {
         let at = search::area_places(*self.entry);
-        let owners = self.all_owners(area, at, named, Refusal::Mrnf)?;
+        let owners = self.all_owners(area, at, named, Some(Refusal::Mrnf))?;
         let point = OwnedPoint {
             base: self.base,
             entry: self.entry,
@@ -134,7 +134,7 @@ impl<'a> Paths<'a> {
     {
         let part = self.set().record(r).bytes();
         let at = search::record_places(*self.entry);
-        let owners = self.all_owners(part, at, named, Refusal::Damg)?;
+        let owners = self.all_owners(part, at, named, Some(Refusal::Damg))?;
         let point = OwnedPoint {
             base: self.base,
             entry: self.entry,

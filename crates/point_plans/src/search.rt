@@ -3,14 +3,14 @@
 ghost use Rattle.std.specs.Prelude.{◌≡◌, ◌≤◌, length, take, drop, replicate, IfOk};
 ghost use Rattle.octets.specs.Octets.{zeros};
 ghost use Rattle.octets.specs.Below.{upto};
-ghost use Rattle.terms.specs.Status.{status_by, status_of};
+ghost use Rattle.terms.specs.Status.{status_of};
 ghost use Rattle.terms.specs.Terms.{key_of};
 ghost use Rattle.schema.specs.Decode.{path_of};
 ghost use Rattle.records.specs.Areas.{area_key_place};
 ghost use Rattle.masters.specs.declared.Found.TheVariants.{At};
 ghost use Rattle.masters.specs.Find.{find};
 ghost use Rattle.point_plans.specs.Rest.{other_masters};
-ghost use Rattle.point_plans.specs.Paths.{no_part, owner_of, owner_on, key_at};
+ghost use Rattle.point_plans.specs.Paths.{no_part, absent_status, owner_of, owner_on, key_at};
 ghost use Rattle.point_plans.specs.Within.{KeysIn};
 ghost use Rattle.records.specs.InBase.{masters_kept};
 
@@ -50,15 +50,19 @@ pub fn record_places(e: Entry) -> [usize; 4]
     at
 }
 
-// The master of a key among the masters of its path: where its record lies.
-fn owner_among(masters: &Masters, key: Key, absent: Refusal) -> Result<Part, Refusal>
+// The master of a key among the masters of its path: where its record lies. Of a master that is missing the caller says what it comes to:
+// a refusal, or no part.
+fn owner_among(masters: &Masters, key: Key, absent: Option<Refusal>) -> Result<Part, Refusal>
     requires le_records { 1 ≤ masters.now.entry.now.records }
     requires len_value { key.len ≡ masters.now.entry.now.key }
     ensures { result ≡ owner_of absent masters.now.entry.now (find masters.now.base.now masters.now.entry.now (key_of key)) }
 {
     match masters.find(key).found {
         Found::At(m) => Ok(part_of(*masters.entry, m)),
-        Found::Missing => Err(absent),
+        Found::Missing => match absent {
+            Some(why) => Err(why),
+            None => Ok(Part { at: 0, size: 0 }),
+        },
         Found::Damaged => Err(Refusal::Damg),
     }
 }
@@ -69,7 +73,7 @@ fn owner_on(
     key: Key,
     k: usize,
     named: NamedPath,
-    absent: Refusal,
+    absent: Option<Refusal>,
 ) -> Result<Part, Refusal>
     requires le_records { 1 ≤ masters.now.entry.now.records }
     requires len_value { key.len ≡ masters.now.entry.now.key }
@@ -89,11 +93,11 @@ impl<'a> Paths<'a> {
         src: &[u8],
         at: [usize; 4],
         named: NamedPath,
-        absent: Refusal,
+        absent: Option<Refusal>,
     ) -> Result<[Part; 4], Refusal>
         requires keys_in { KeysIn self.now.entry.now at (length src.now) }
         requires on_value { find self.now.base.now (masters_kept self.now.masters.now named.on) (key_at src.now self.now.entry.now at named.on) ≡ At named.master }
-        ensures status { status_of result ≡ other_masters self.now.base.now (masters_kept self.now.masters.now) named.on (status_by absent) (key_at src.now self.now.entry.now at) self.now.entry.now.count }
+        ensures status { status_of result ≡ other_masters self.now.base.now (masters_kept self.now.masters.now) named.on (absent_status absent) (key_at src.now self.now.entry.now at) self.now.entry.now.count }
         ensures found { IfOk result (λ parts. take self.now.entry.now.count parts ≡ upto (owner_on self.now.base.now (masters_kept self.now.masters.now) (key_at src.now self.now.entry.now at)) self.now.entry.now.count) }
         ensures rest { IfOk result (λ parts. drop self.now.entry.now.count parts ≡ drop self.now.entry.now.count (replicate 4 no_part)) }
     {

@@ -1,72 +1,77 @@
-// "path by path prior's side, next's side": the words that a plan stores when a record is linked or unlinked.
+// "path by path prior's side, next's side": the words that a plan stores when a record is linked or unlinked. They are made of numbers and
+// parts alone: no data base is read.
 ghost use Rattle.std.specs.Prelude.{◌≡◌, ◌+◌, ◌*◌, ◌≤◌};
-ghost use Rattle.schema.specs.Place.{InSet};
+ghost use Rattle.schema.specs.Place.{InSet, LiesIn};
 ghost use Rattle.point_plans.specs.Paths.{prior_word, next_word, side_words, words_below};
-ghost use Rattle.point_plans.specs.Within.{LinkIn, LinksIn};
+ghost use Rattle.point_plans.specs.Within.{OwnersIn, LinkIn, LinksIn};
+ghost use Rattle.records.specs.InBase.{PathIn, PointsIn};
 ghost use Rattle.point_plans.specs.Plans.{Longer};
 
-use super::held::{OwnedPoint, PointsOn};
 use plans::{Plan, Word};
 use records::Link;
-use schema::Part;
-use schema::layout::part_of;
+use schema::layout::{part_of, path_of};
+use schema::{Entry, Part, Path};
 use terms::RecordNo;
 
-impl<'a> PointsOn<'a> {
-    // Prior's side: what points forward to a record, next of the record before it or the master's first, becomes v.
-    fn prior_word(&self, owner: Part, prior: u32, v: u32) -> Word
-        requires { (prior ≡ 0 → ⊥) → InSet self.now.entry.now prior }
-        ensures { result ≡ prior_word self.now.entry.now self.now.path owner prior v }
-    {
-        let p = self.path;
-        if prior == 0 {
-            return Word::of(owner, p.link, v);
-        }
-        Word::of(
-            part_of(*self.entry, RecordNo(prior)),
-            p.at + p.len as u16 + 4,
-            v,
-        )
+// Prior's side: what points forward to a record, next of the record before it or the master's first, becomes v.
+fn prior_word(e: &Entry, p: Path, owner: Part, prior: u32, v: u32) -> Word
+    requires lies_in { LiesIn e.now 2097152 }
+    requires path_in { PathIn e.now p }
+    requires in_set { (prior ≡ 0 → ⊥) → InSet e.now prior }
+    ensures { result ≡ prior_word e.now p owner prior v }
+{
+    if prior == 0 {
+        return Word::of(owner, p.link, v);
     }
-
-    // Next's side: what points back to a record, prior of the record after it or the master's last, becomes v.
-    fn next_word(&self, owner: Part, next: u32, v: u32) -> Word
-        requires link_bound { self.now.path.link + 8 ≤ owner.size }
-        requires in_set { (next ≡ 0 → ⊥) → InSet self.now.entry.now next }
-        ensures { result ≡ next_word self.now.entry.now self.now.path owner next v }
-    {
-        let p = self.path;
-        if next == 0 {
-            return Word::of(owner, p.link + 4, v);
-        }
-        Word::of(part_of(*self.entry, RecordNo(next)), p.at + p.len as u16, v)
-    }
-
-    // One path's two words: what points forward to the record becomes `value.next`, what points back to it `value.prior`.
-    fn with_path(&self, plan: Plan, owner: Part, link: Link, value: Link) -> Plan
-        requires count_bound { plan.count + 2 ≤ 8 }
-        requires link_bound { self.now.path.link + 8 ≤ owner.size }
-        requires link_in { LinkIn self.now.entry.now link }
-        ensures { Longer plan result (plan.count + 2) (side_words self.now.entry.now self.now.path owner link value) }
-    {
-        let forward = self.prior_word(owner, link.prior, value.next);
-        let back = self.next_word(owner, link.next, value.prior);
-        plan.with_word(forward).with_word(back)
-    }
+    Word::of(part_of(*e, RecordNo(prior)), p.at + p.len as u16 + 4, v)
 }
 
-impl<'a> OwnedPoint<'a> {
-    // Every path's two words. A new record's number is both values on every path; a record that leaves has its own neighbours there.
-    pub fn with_sides(&self, plan: Plan, links: [Link; 4], values: [Link; 4]) -> Plan
-        requires count_value { plan.count ≡ 0 }
-        requires links_in { LinksIn self.now.entry.now links }
-        ensures { Longer plan result (2 * self.now.entry.now.count) (words_below self.now.entry.now self.now.owners links values self.now.entry.now.count) }
-    {
-        let mut made = plan;
-        for k in 0..self.entry.count as usize {
-            let on = self.on(k);
-            made = on.with_path(made, self.owners[k], links[k], values[k]);
-        }
-        made
+// Next's side: what points back to a record, prior of the record after it or the master's last, becomes v.
+fn next_word(e: &Entry, p: Path, owner: Part, next: u32, v: u32) -> Word
+    requires lies_in { LiesIn e.now 2097152 }
+    requires path_in { PathIn e.now p }
+    requires link_bound { p.link + 8 ≤ owner.size }
+    requires in_set { (next ≡ 0 → ⊥) → InSet e.now next }
+    ensures { result ≡ next_word e.now p owner next v }
+{
+    if next == 0 {
+        return Word::of(owner, p.link + 4, v);
     }
+    Word::of(part_of(*e, RecordNo(next)), p.at + p.len as u16, v)
+}
+
+// One path's two words: what points forward to the record becomes `value.next`, what points back to it `value.prior`.
+fn with_path(plan: Plan, e: &Entry, p: Path, owner: Part, link: Link, value: Link) -> Plan
+    requires count_bound { plan.count + 2 ≤ 8 }
+    requires lies_in { LiesIn e.now 2097152 }
+    requires path_in { PathIn e.now p }
+    requires link_bound { p.link + 8 ≤ owner.size }
+    requires link_in { LinkIn e.now link }
+    ensures { Longer plan result (plan.count + 2) (side_words e.now p owner link value) }
+{
+    let forward = prior_word(e, p, owner, link.prior, value.next);
+    let back = next_word(e, p, owner, link.next, value.prior);
+    plan.with_word(forward).with_word(back)
+}
+
+// Every path's two words. A new record's number is both values on every path; a record that leaves has its own neighbours there.
+pub fn with_sides(
+    plan: Plan,
+    e: &Entry,
+    owners: [Part; 4],
+    links: [Link; 4],
+    values: [Link; 4],
+) -> Plan
+    requires count_value { plan.count ≡ 0 }
+    requires points_in { PointsIn e.now 2097152 }
+    requires owners_in { OwnersIn e.now owners 2097152 }
+    requires links_in { LinksIn e.now links }
+    ensures { Longer plan result (2 * e.now.count) (words_below e.now owners links values e.now.count) }
+{
+    let mut made = plan;
+    for k in 0..e.count as usize {
+        let p = path_of(*e, k);
+        made = with_path(made, e, p, owners[k], links[k], values[k]);
+    }
+    made
 }

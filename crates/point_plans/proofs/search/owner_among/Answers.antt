@@ -11,8 +11,11 @@ part_of-requires c =
 pub returns-in-At : goal.returns-in-At
 returns-in-At c = rw (sym c.find.ensures.found_value ∙ c.in-At.is, c.part_of.ensures)
 
-pub returns-in-Missing : goal.returns-in-Missing
-returns-in-Missing c = rw (sym c.find.ensures.found_value ∙ c.in-Missing.is)
+pub returns-in-Some : goal.returns-in-Some
+returns-in-Some c = rw (sym c.find.ensures.found_value ∙ c.in-Missing.is, c.in-Some.is)
+
+pub returns-in-None : goal.returns-in-None
+returns-in-None c = rw (sym c.find.ensures.found_value ∙ c.in-Missing.is, c.in-None.is)
 
 pub returns-in-Damaged : goal.returns-in-Damaged
 returns-in-Damaged c = rw (sym c.find.ensures.found_value ∙ c.in-Damaged.is)

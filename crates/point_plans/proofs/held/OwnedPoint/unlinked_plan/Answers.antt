@@ -4,11 +4,15 @@ use lib.ListN.{take}
 use lib.Seq.{get_or-take}
 use Rattle.records.specs.Areas.{no_link}
 use Rattle.plans.specs.declared.Head.TheVariants.{Nothing}
+use Rattle.records.proofs.InBaseLaws.{points_most}
+use Rattle.point_plans.specs.WithinLaws.{owners_most}
 use Rattle.point_plans.specs.PlanLaws.{built, built-wiped}
 use Rattle.point_plans.proofs.held.OwnedPoint.unlinked_plan.Goals as goal
 
 pub with_sides-requires : goal.with_sides-requires
-with_sides-requires c = record { count_value = rw c.of-plan.ensures refl; links_in = c.requires }
+with_sides-requires c =
+    let o = c.args.self.now in
+    record { count_value = rw c.of-plan.ensures refl; points_in = points_most o.points_in; owners_in = owners_most o.owners o.points_in.lies o.owners_in; links_in = c.requires }
 
 pub returns : goal.returns
 returns c =

@@ -1,9 +1,0 @@
--- `point_plans::links::OwnedPoint::own_links` meets its contract. The invariant: the neighbours on the paths passed are kept.
-use mathlib.Core.Path.{◌≡◌}
-use lib.ListN.{length, take, drop}
-use Rattle.octets.specs.Below.{upto}
-use Rattle.point_plans.specs.Paths.{link_on}
-use Rattle.point_plans.proofs.held.OwnedPoint.own_links.Given as goal
-
-abbrev pub invariant-loop-k : goal.invariant-loop-k
-invariant-loop-k l = (length l.links ≡ 4) × (take l.k l.links ≡ upto (link_on l.self.base.now l.self.entry.now l.r.0) l.k) × (drop l.k l.links ≡ drop l.k l.initial.links)

@@ -1,8 +1,0 @@
--- `point_plans::sides::OwnedPoint::with_sides` meets its contract. The invariant: the plan has the words of the paths passed.
-use Prim.Native.Nat.{◌*◌}
-use Rattle.point_plans.specs.Paths.{words_below}
-use Rattle.point_plans.specs.Plans.{Longer}
-use Rattle.point_plans.proofs.held.OwnedPoint.with_sides.Given as goal
-
-abbrev pub invariant-loop-k : goal.invariant-loop-k
-invariant-loop-k l = Longer l.initial.made l.made (2 * l.k) (words_below l.self.entry.now l.self.owners l.links l.values l.k)
