@@ -31,7 +31,7 @@ fn copy_part(dst: &mut [u8], at: usize, src: &[u8], from: usize, n: usize)
 }
 
 // Where path j's key stands in a variable set's area: behind the keys of the paths before it.
-fn area_key_place(e: Entry, j: usize) -> usize
+pub fn area_key_place(e: Entry, j: usize) -> usize
     requires { j ≤ 4 }
     ensures { result ≡ area_key_place e j }
 {
@@ -54,7 +54,7 @@ fn area_keys(e: Entry) -> usize
 }
 
 // How long an area of the set is.
-fn area_length(e: Entry) -> usize
+pub fn area_length(e: Entry) -> usize
     requires { Fields e }
     ensures { result ≡ area_length e }
 {

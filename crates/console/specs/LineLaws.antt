@@ -1,9 +1,9 @@
 -- The laws of a line's fields: in which order their ends lie, and names copied whole.
-use Rattle.std.specs.Prelude.{ℕ, zero, suc, ◌+◌, ◌-◌, ◌≤◌, ◌<◌, ◌≡◌, refl, Bool, List, eqb, length}
-use Rattle.std.proofs.Common.{sym, arith, add-one}
+use Rattle.std.specs.Prelude.{ℕ, zero, suc, ◌+◌, ◌-◌, ◌≤◌, ◌<◌, ◌≡◌, refl, Bool, List, eqb, length, true, false, ◌||◌}
+use Rattle.std.proofs.Common.{sym, arith, add-one, ◌∙◌, eqb-true}
 use Rattle.octets.specs.Octets.{byte_at}
 use Rattle.octets.specs.BelowLaws.{lowest_from_ge, lowest_from_le}
-use Rattle.console.specs.Lines.{end_from, end_of, start_of}
+use Rattle.console.specs.Lines.{end_from, end_of, start_of, is_dash, is_name}
 
 -- ---- ends
 
@@ -43,3 +43,18 @@ end_of-last line (suc (suc (suc zero))) h = omega (arith, end_of-next line 3, en
 end_of-last line (suc (suc (suc (suc zero)))) h = omega (arith, end_of-next line 4)
 end_of-last line (suc (suc (suc (suc (suc zero))))) h = omega arith
 end_of-last line (suc (suc (suc (suc (suc (suc k)))))) h = absurd (omega arith)
+
+-- a field that is not the first begins behind the end of the one before it
+pub start_behind : (line : List ℕ) (k : ℕ) → (k ≡ 0 → ⊥) → end_of line (k - 1) + 1 ≡ start_of line k
+start_behind line zero h = absurd (h refl)
+start_behind line (suc k) h = let e : suc k - 1 ≡ k = omega arith in rw e refl
+
+-- ---- names
+
+-- a name that is not "-" has its length
+or_left : (a b : Bool) → (a || b) ≡ true → b ≡ false → a ≡ true
+or_left true b h e = refl
+or_left false b h e = sym e ∙ h
+
+pub name-length : (n : ℕ) (f : List ℕ) → is_name n f ≡ true → is_dash f ≡ false → length f ≡ n
+name-length n f h e = eqb-true (length f) n (or_left (eqb (length f) n) (is_dash f) h e)

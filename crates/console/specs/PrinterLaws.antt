@@ -5,9 +5,9 @@ use Rattle.std.proofs.Common.{ap, ◌∙◌, length-set, length-append, length-d
 use native.Mathlib.Omega.{arith}
 use Rattle.std.proofs.Math.Numerals.{add-one}
 use borrow.Author.Tests.{lt-ltb, le-ltb}
-use Rattle.octets.specs.Octets.{splice}
+use Rattle.octets.specs.Octets.{splice, set_word, word_bytes, zeros}
 use Rattle.octets.specs.BelowLaws.{drop_later}
-use Rattle.octets.specs.SpliceLaws.{splice_eq, drop-one}
+use Rattle.octets.specs.SpliceLaws.{splice_eq, drop-one, splice-whole}
 use Rattle.console.specs.Console.{RestStays}
 use Rattle.console.specs.References.{digits_onto}
 
@@ -28,6 +28,11 @@ rest-splice xs at ys h =
 
 pub stays-behind : {was mid out : List ℕ} {n m : ℕ} → RestStays n was mid → n ≤ m → RestStays m mid out → RestStays m was out
 stays-behind {was} {mid} {out} {n} {m} e h f = record { rest = f.rest ∙ drop_later mid was n m h e.rest }
+
+-- the four characters of a reference
+pub word_whole : (v : ℕ) → set_word (zeros 4) 0 v ≡ word_bytes v
+unfolding set_word
+word_whole v = splice-whole (zeros 4) (word_bytes v) refl
 
 -- ---- digits, the last one first
 

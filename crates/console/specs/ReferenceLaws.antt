@@ -2,17 +2,21 @@
 use Rattle.std.specs.Prelude.{ℕ, ◌+◌, ◌*◌, ◌-◌, ◌≤◌, ◌<◌, ◌≡◌, Bool, true, false, cond, ◌&&◌, List, [], ◌∷◌, leb, length, get_or, drop, Option, Some, None, MatchOption}
 use Rattle.std.proofs.Math.Path.{refl}
 use Rattle.std.proofs.Common.{arith, drop_of_length-le, ne_eqb}
-use borrow.Author.Tests.{le-leb, lt-leb}
-use Rattle.octets.specs.Octets.{every}
+use borrow.Author.Tests.{le-leb, lt-leb, leb-true}
+use Rattle.octets.specs.Octets.{every, word_at}
 use Rattle.octets.specs.SpliceLaws.{drop-one}
 use Rattle.octets.specs.RunLaws.{every_turn, every_fails}
-use Rattle.console.specs.References.{is_digit, decimal_onto, decimal_of, is_decimal}
+use Rattle.console.specs.References.{is_digit, decimal_onto, decimal_of, is_decimal, spells_four, is_reference, reference_of}
+use Rattle.std.proofs.Math.Bool.{and-eq-true_iff}
 
 -- ---- reading
 
 -- the number that xs spells behind n; none where it is too high, or a byte of xs is no digit
 abbrev pub spelled : ℕ → List ℕ → Option ℕ
 spelled n xs = cond (every is_digit xs && leb (decimal_onto n xs) 4294967295) (Some (decimal_onto n xs)) None
+
+pub digit_ge : (x : ℕ) → is_digit x ≡ true → 48 ≤ x
+digit_ge x h = leb-true 48 x ((and-eq-true_iff (leb 48 x) (leb x 57)).0 h).0
 
 -- a number does not become less by digits behind it
 decimal_onto_ge : (n : ℕ) (xs : List ℕ) → n ≤ decimal_onto n xs
@@ -51,5 +55,14 @@ one_number false m = refl
 
 pub spelled_whole : (f : List ℕ) (o : Option ℕ) → (length f ≡ 0 → ⊥) → spelled 0 f ≡ o → MatchOption o (is_decimal f ≡ false) (λ n. (is_decimal f ≡ true) × (n ≡ decimal_of f))
 spelled_whole f o h e = rw (← e, ne_eqb (length f) 0 h) (one_number (every is_digit f && leb (decimal_of f) 4294967295) (decimal_of f))
+
+-- ---- a field that is a reference
+
+module _ (f : List ℕ) where
+  pub said_spelt : spells_four f ≡ true → word_at f 0 ≡ cond (is_reference f) (reference_of f) 4294967296
+  said_spelt h = rw h refl
+
+  pub said_decimal : spells_four f ≡ false → cond (is_decimal f) (decimal_of f) 4294967296 ≡ cond (is_reference f) (reference_of f) 4294967296
+  said_decimal h = rw h refl
 
 -- ---- what is printed in decimal is read again

@@ -20,7 +20,7 @@ pub struct Asked<'a> {
 }
 
 // Has the line six fields?
-fn six_fields(line: &[u8]) -> bool
+pub fn six_fields(line: &[u8]) -> bool
     requires { length line.now ≤ 128 }
     ensures { result ≡ six_fields line.now }
 {

@@ -5,10 +5,10 @@ use Rattle.std.specs.List.{list_any, list_all, range_with_len}
 use Rattle.std.specs.Prelude.{ℕ, ◌<◌, ◌≡◌, Bool, true, false, cond, not, ◌&&◌, ◌||◌, List, [], ◌∷◌, eqb, ltb, length}
 use Rattle.std.proofs.Common.{refl, sym, ap, ◌∙◌}
 use Rattle.std.proofs.Math.Bool.{not-not, and-true}
-use borrow.Author.Tests.{eq-eqb, ne_eqb, ltb-true, not-false}
+use borrow.Author.Tests.{eq-eqb, ne_eqb, ltb-true, not-false, eqb-true}
 use Rattle.octets.specs.Octets.{all_blank, same_bytes}
 use Rattle.octets.specs.Below.{all_below}
-use Rattle.octets.specs.BelowLaws.{list_all-below}
+use Rattle.octets.specs.BelowLaws.{list_all-below, all_below-fails}
 use Rattle.octets.specs.TestLaws.{never_both, asked}
 use Rattle.octets.specs.TestLaws as tests
 use Rattle.terms.specs.declared.Status.{Status}
@@ -70,6 +70,23 @@ asks_area o = each_operation (λ u. (rungs_of u).area || not ((rungs_of u).blank
 
 pub asks_key : (o : Operation) → ((rungs_of o).key || not ((rungs_of o).blank || (rungs_of o).same)) ≡ true
 asks_key o = each_operation (λ u. (rungs_of u).key || not ((rungs_of u).blank || (rungs_of u).same)) refl o
+
+-- so an area whose keys are asked for has its length
+asked-fits : (ar x ft : Bool) → (ar || not x) ≡ true → (ar && not ft) ≡ false → x ≡ true → ft ≡ true
+asked-fits true x true h g a = refl
+asked-fits true x false h g a = cc
+asked-fits false true ft h g a = cc
+asked-fits false false ft h g a = cc
+
+pub area-fits : (o : Operation) {n m : ℕ} → ((rungs_of o).area && not (eqb n m)) ≡ false → ((rungs_of o).blank || (rungs_of o).same) ≡ true → n ≡ m
+area-fits o {n} {m} g a = eqb-true n m (asked-fits (rungs_of o).area ((rungs_of o).blank || (rungs_of o).same) (eqb n m) (asks_area o) g a)
+
+-- a test that is not asked, and one that is
+pub not-asked : (b x : Bool) → b ≡ false → false ≡ (b && x)
+not-asked b x h = rw h refl
+
+pub is_asked : (b x r : Bool) → b ≡ true → r ≡ x → r ≡ (b && x)
+is_asked b x r h k = rw h k
 
 -- ---- the keys of an area, by the kind of its set
 
@@ -164,3 +181,26 @@ module _ (o : Operation) (e : Entry) (on link k ref : ℕ) (key area : List ℕ)
         where
           alone : (b : Bool) → (b && true) ≡ false → b ≡ false
           alone b q = rw and-true at q
+
+-- ---- the keys of an area, as a loop over the paths meets them
+
+module _ (e : Entry) (area : List ℕ) where
+  abbrev pub not_blank : ℕ → Bool
+  not_blank k = not (all_blank (area_key_on e area k))
+
+  pub blank_found : is_master e ≡ false → (j : ℕ) → j < e.count → all_blank (area_key_on e area j) ≡ true → blank_area_key e area ≡ true
+  unfolding blank_area_key
+  blank_found v j l h = rw (v, all_below-fails not_blank e.count j l (rw h refl)) refl
+
+  pub blank_none : is_master e ≡ false → all_below not_blank e.count ≡ true → blank_area_key e area ≡ false
+  unfolding blank_area_key
+  blank_none v h = rw (v, h) refl
+
+module _ (b : List ℕ) (e : Entry) (r : ℕ) (area : List ℕ) where
+  pub other_found : (j : ℕ) → j < e.count → same_stored b e r area j ≡ false → other_stored_key b e r area ≡ true
+  unfolding other_stored_key
+  other_found j l h = rw (all_below-fails (same_stored b e r area) e.count j l h) refl
+
+  pub other_none : all_below (same_stored b e r area) e.count ≡ true → other_stored_key b e r area ≡ false
+  unfolding other_stored_key
+  other_none h = rw h refl

@@ -44,6 +44,11 @@ module _ (b : List ℕ) (e : Entry) (ok : LiesIn e (length b)) (m : MasterOk e) 
             (omega arith);
       }
 
+-- the stranger's tests, made on what was read
+pub stranger-tests : (b : List ℕ) (e : Entry) (h : ℕ) {pr nx : ℕ} {bf af t : Bool} → pr ≡ root_prior b e h → nx ≡ root_next b e h → bf ≡ bad_root b e pr → af ≡ bad_root b e nx
+    → (eqb pr 0 || bf || af) ≡ t → stranger_damaged b e h ≡ t
+stranger-tests b e h p n q r k = rw (q, r, p, n) at k
+
 pub stranger_near : (b : List ℕ) (e : Entry) (h : ℕ) → stranger_damaged b e h ≡ false → (root_prior b e h ≤ e.records) × (root_next b e h ≤ e.records)
 stranger_near b e h k =
     let o = neither (eqb (root_prior b e h) 0 || bad_root b e (root_prior b e h)) (bad_root b e (root_next b e h)) k in

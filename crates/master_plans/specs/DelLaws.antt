@@ -52,6 +52,14 @@ by-none : (s m x : Bool) → s ≡ false → m ≡ false → (s || m && x) ≡ f
 by-none s m x h k = rw (h, k)
 
 module _ (b : List ℕ) (e : Entry) (h r : ℕ) where
+  -- the tests, made on what was read
+  pub neighbours_tested : {pr nx : ℕ} {bf af t : Bool} → pr ≡ root_prior b e r → nx ≡ root_next b e r → bf ≡ bad_root b e pr → af ≡ bad_root b e nx
+      → (not (eqb r h) && eqb pr 0 || bf || af) ≡ t → neighbours_damaged b e h r ≡ t
+  neighbours_tested p n q s k = rw (q, s, p, n) at k
+
+  pub move_test : {nx : ℕ} {t : Bool} → nx ≡ root_next b e r → (eqb r h && not (eqb nx 0)) ≡ t → synonym_moves b e h r ≡ t
+  move_test n k = rw n at k
+
   pub del_damaged_lem : neighbours_damaged b e h r ≡ true → del_master_damaged b e h r ≡ true
   unfolding del_master_damaged
   del_damaged_lem d = either_left (neighbours_damaged b e h r) _ d

@@ -1,23 +1,25 @@
 -- The ride along a chain, as the code makes it: a turn, the ways out and the end; and the sums that the chains of a path make.
 use Prim.Native.Nat.{ℕ, zero, suc, ◌+◌, ◌≤◌, ◌<◌}
-use Rattle.std.specs.Prelude.{◌≡◌, Bool, cond, List, eqb, Some, None}
+use Rattle.std.specs.Prelude.{◌≡◌, Bool, cond, List, eqb, Some, None, not, ◌&&◌}
 use Rattle.std.proofs.Math.Path.{refl}
 use Rattle.std.proofs.Common.{sym, ap, ◌∙◌}
-use Rattle.std.proofs.Math.Bool.{true, false}
+use Rattle.std.proofs.Math.Bool.{true, false, and-eq-true_iff}
 use native.Mathlib.Omega.{arith}
 use Rattle.std.proofs.Math.Numerals.{add-one}
-use borrow.Author.Tests.{eq-eqb, ne_eqb, le-leb, lt-leb}
+use borrow.Author.Tests.{eq-eqb, ne_eqb, le-leb, lt-leb, not-true, not-false}
 use Rattle.octets.specs.Octets.{run, same_bytes}
 use Rattle.octets.specs.RunLaws.{same_bytes_comm}
 use Rattle.octets.specs.Below.{all_below, sum_below, count_below}
 use Rattle.octets.specs.BelowLaws.{all_below-fails, sum_below-turn, count_below_hit, count_below_miss}
 use Rattle.schema.specs.declared.Path.{Path}
 use Rattle.schema.specs.declared.Entry.{Entry}
-use Rattle.schema.specs.Place.{place_of}
+use Rattle.schema.specs.Place.{place_of, InSet, in_set}
 use Rattle.records.specs.Records.{is_live, master_key, first_on, last_on, key_on, prior_on, next_on}
 use Rattle.sound.specs.Linear.{Ride, ride, path_ride, ride_ends, points_on, live_count, path_in_place}
 use Rattle.signon.specs.declared.on_points.Ridden.{Ridden}
 use Rattle.signon.specs.Judged.{ridden_of, in_order, ride_from, chain_ends, chain_count, chain_points, path_points}
+use Rattle.masters.proofs.FindLaws.{in_set_true}
+use Rattle.points.specs.Chains.{is_point_of}
 
 -- ---- one record
 
@@ -164,3 +166,20 @@ module _ (b : List ℕ) (e : Entry) (p : Path) (x : Entry) where
   path_sum h el =
       let t = some_if (all_below ends_at x.records) h in
       rw (t.0, el, ← t.1) refl
+
+-- ---- by a test and its converse, as a loop is told them
+
+module _ (b : List ℕ) (e : Entry) (p : Path) (key : List ℕ) where
+  -- a record in order is one of the set
+  pub order_in : (q r : ℕ) {o : Bool} → o ≡ in_order b e p key q r → not o ≡ false → InSet e r
+  order_in q r {o} eo h =
+      let t = ((and-eq-true_iff (in_set e r && is_point_of b e p key r) (eqb (prior_on b e r p) q)).0 (sym eo ∙ not-false o h)).0 in
+      in_set_true e r ((and-eq-true_iff (in_set e r) (is_point_of b e p key r)).0 t).0
+
+  pub ride_out : (fuel n q r : ℕ) → fuel ≡ 0 → ride_from fuel b e p key n q r ≡ record { ok = eqb r 0; count = n; last = q }
+  unfolding ride_from ride
+  ride_out fuel n q r h = rw h refl
+
+pub chain-none : (b : List ℕ) (e : Entry) (p : Path) (x : Entry) (m : ℕ) {l : Bool} → l ≡ is_live b x m → not l ≡ true
+    → (true ≡ chain_ends b e p x m) × (0 ≡ chain_count b e p x m)
+chain-none b e p x m {l} el h = rw (← el, not-true l h) (refl, refl)

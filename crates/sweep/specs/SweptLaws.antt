@@ -129,6 +129,13 @@ swept-fields t i w h = go (ltb i (set_count t)) refl h
 
 -- ---- the record that it gives
 
+pub none_within : (e : Entry) (r : ℕ) → or_none e r ≤ e.records
+none_within e r = go (ltb e.records r) refl
+  where
+    go : (b : Bool) → ltb e.records r ≡ b → or_none e r ≤ e.records
+    go true h = rw h (omega arith)
+    go false h = rw h (ltb-false e.records r h)
+
 -- the answer's number, and that it is one of the set's
 module _ (e : Entry) (r : ℕ) where
   pub given-number : {o : Option RecordNo} → o ≡ record_up_to e.records r → number_of o ≡ or_none e r
