@@ -2,7 +2,7 @@
 use Prim.Native.Nat.{ℕ, zero, suc, ◌+◌, ◌-◌, ◌≤◌, ◌<◌}
 use Rattle.std.specs.Prelude.{◌≡◌, Bool, ◌&&◌, List, eqb, ltb}
 use Rattle.std.proofs.Math.Path.{refl}
-use Rattle.std.proofs.Common.{sym, ◌∙◌}
+use Rattle.std.proofs.Common.{sym, ap, ◌∙◌}
 use Rattle.std.proofs.Math.Bool.{true, false, cond}
 use native.Mathlib.Omega.{arith}
 use Rattle.std.proofs.Math.Numerals.{add-one}
@@ -155,6 +155,57 @@ module _ (b : List ℕ) (e : Entry) (key : List ℕ) (w : Walk) where
       let t = next_by _ _ _ _ _ _ _ v (sym by_tests ∙ h) in
       let l = ltb-true w.visited e.records t.0 in
       rw (← t.2) (record { below = l; counted = refl; tail = tail_of (e.records - (w.visited + 1)) false (omega arith) t.1 })
+
+-- ---- a turn of the search without the cursor: from record r on, with some visited
+
+module _ (b : List ℕ) (e : Entry) (key : List ℕ) (r seen : ℕ) where
+  here : Walk
+  here = record { at = r; visited = seen }
+
+  by-step : {s : Step} → s ≡ step_of b e key here → resolve (seek_on b e key) s ≡ seek (e.records - seen) b e key r
+  unfolding here
+  by-step h = ap (resolve (seek_on b e key)) h ∙ sym (walk_turn b e key here)
+
+  pub seek_out : e.records ≤ seen → F.Damaged ≡ seek (e.records - seen) b e key r
+  unfolding here
+  seek_out h = by-step (step_over b e key here h)
+
+  module _ (more : seen < e.records) where
+    pub seek-no_record : r ≡ 0 → F.Damaged ≡ seek (e.records - seen) b e key r
+    unfolding here
+    seek-no_record h = by-step (step-none b e key here h)
+
+    pub seek-above : e.records < r → F.Damaged ≡ seek (e.records - seen) b e key r
+    unfolding here
+    seek-above h = by-step (step-above b e key here (omega arith) h)
+
+    module _ (some : r ≡ 0 → ⊥) (most : r ≤ e.records) {l : Bool} (el : l ≡ is_live b e r) where
+      inside : InSet e r
+      inside = (omega arith, most)
+
+      pub seek_free : l ≡ false → F.Damaged ≡ seek (e.records - seen) b e key r
+      unfolding here
+      seek_free h = by-step (step_free b e key here more inside el h)
+
+      -- a live record; the code compares its key with the k bytes sought
+      module _ (live : l ≡ true) {k : ℕ} (sized : k ≡ e.key) {s : Bool} (same : s ≡ same_bytes key (run b (place_of e r + 12) k)) where
+        pub seek_here : s ≡ true → F.At (record { 0 = r }) ≡ seek (e.records - seen) b e key r
+        unfolding here
+        seek_here h = by-step (step_here b e key here more inside el live sized same h)
+
+        module _ (other : s ≡ false) {next : ℕ} (en : next ≡ root_next b e r) where
+          pub seek_end : next ≡ 0 → (F.Missing ≡ seek (e.records - seen) b e key r) × (r ≡ tail_from (e.records - seen) b e r)
+          unfolding here
+          seek_end h =
+              let a = step_end b e key here more inside el live sized same other en h in
+              (by-step a, sym (walk_ends b e key here (sym a)))
+
+          pub seek_next : (next ≡ 0 → ⊥) → (seek (e.records - (seen + 1)) b e key next ≡ seek (e.records - seen) b e key r)
+              × (tail_from (e.records - (seen + 1)) b e next ≡ tail_from (e.records - seen) b e r)
+          unfolding here
+          seek_next h =
+              let a = step_on b e key here more inside el live sized same other en h in
+              (by-step a, sym ((walk_goes b e key here (record { at = next; visited = seen + 1 }) (sym a)).tail))
 
 -- ---- the search from the home
 
